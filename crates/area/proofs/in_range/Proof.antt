@@ -1,0 +1,16 @@
+-- `area::in_range` meets its contract.
+use borrow.Author.Needs.{needs}
+use Rattle.area.proofs.in_range.Statement.{statement}
+use Rattle.area.proofs.in_range.Tie as tie
+
+in-area-requires : tie.Need-in-area-requires
+in-area-requires c κs = search needs
+
+in-area-requires-2 : tie.Need-in-area-requires-2
+in-area-requires-2 c κs = search needs
+
+returns : tie.Need-returns
+returns c = cc
+
+pub in-range-spec : {M : Type 1} → statement M
+in-range-spec = tie.close (tie.spec in-area-requires in-area-requires-2 returns)

@@ -1,0 +1,73 @@
+// The transaction codes that are handled.
+ghost use mathlib.Core.Path.{_≡_};
+ghost use Rattle.frame.specs.Codes.{codeOf, codeNumber, isToken, isCyclic, carriesAreas};
+
+// 65000 cyclic with token, 65001 cyclic without, 65002 participation request, 65012 trigger.
+pub enum Code {
+    Token,
+    Cyclic,
+    Request,
+    Trigger,
+}
+
+pub enum Coded {
+    Known(Code),
+    Unknown,
+}
+
+// "Codes handled (document 003, B-9): 65000 cyclic with token": a match with single codes and ranges (paper 01, list of forms).
+pub fn code_of(number: u16) -> Coded
+    ensures { λ r. ⌜ r ≡ codeOf number ⌝ }
+{
+    match number {
+        65000 => Coded::Known(Code::Token),
+        65001 => Coded::Known(Code::Cyclic),
+        65002 => Coded::Known(Code::Request),
+        65012 => Coded::Known(Code::Trigger),
+        0..=64999 | 65003..=65011 | 65013..=65535 => Coded::Unknown,
+    }
+}
+
+pub fn number_of_code(code: Code) -> u16
+    ensures { λ r. ⌜ r ≡ codeNumber code ⌝ }
+{
+    match code {
+        Code::Token => 65000,
+        Code::Cyclic => 65001,
+        Code::Request => 65002,
+        Code::Trigger => 65012,
+    }
+}
+
+pub fn is_token(code: Code) -> bool
+    ensures { λ r. ⌜ r ≡ isToken code ⌝ }
+{
+    match code {
+        Code::Token => true,
+        Code::Cyclic => false,
+        Code::Request => false,
+        Code::Trigger => false,
+    }
+}
+
+pub fn is_cyclic(code: Code) -> bool
+    ensures { λ r. ⌜ r ≡ isCyclic code ⌝ }
+{
+    match code {
+        Code::Token => true,
+        Code::Cyclic => true,
+        Code::Request => false,
+        Code::Trigger => false,
+    }
+}
+
+pub fn carries_areas(code: Code) -> bool
+    ensures { λ r. ⌜ r ≡ carriesAreas code ⌝ }
+{
+    match code {
+        Code::Token => true,
+        Code::Cyclic => true,
+        Code::Request => true,
+        Code::Trigger => false,
+    }
+}
