@@ -3,10 +3,10 @@
 use Prim.Native.Nat.{ℕ}
 use mathlib.Core.Bool.{Bool, true, false, cond}
 use lib.Dec.{eqb}
-use Rattle.frame.specs.declared.code.Code.{Code}
-use Rattle.frame.specs.declared.code.Code.the-variants.{Token, Cyclic, Request, Trigger}
-use Rattle.frame.specs.declared.code.Coded.{Coded}
-use Rattle.frame.specs.declared.code.Coded.the-variants.{Known, Unknown}
+use Rattle.frame.specs.declared.Code.{Code}
+use Rattle.frame.specs.declared.Code.the-variants.{Token, Cyclic, Request, Trigger}
+use Rattle.frame.specs.declared.Coded.{Coded}
+use Rattle.frame.specs.declared.Coded.the-variants.{Known, Unknown}
 
 -- the number of each code, TCD
 abbrev pub codeNumber : Code → ℕ

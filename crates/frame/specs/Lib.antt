@@ -1,6 +1,5 @@
--- The definitions of this crate, and what is proved of them.
+-- The definitions of this crate.
 pub mod Refusals
 pub mod Codes
 pub mod Positions
 pub mod Octets
-pub mod Reading

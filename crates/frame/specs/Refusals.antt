@@ -1,8 +1,8 @@
 -- Paper 01, "Numbers the station answers with": the number of each refusal. A refusal that a change request adds gets the next number and a
 -- clause of its own here.
 use Prim.Native.Nat.{ℕ}
-use Rattle.frame.specs.declared.refusal.Refusal.{Refusal}
-use Rattle.frame.specs.declared.refusal.Refusal.the-variants.{Cut, Mark, Length, Code, Address, Taken, Area, Block, Stranger, NotDue, Buffer}
+use Rattle.frame.specs.declared.Refusal.{Refusal}
+use Rattle.frame.specs.declared.Refusal.the-variants.{Cut, Mark, Length, Code, Address, Taken, Area, Block, Stranger, NotDue, Buffer}
 
 abbrev pub numberOf : Refusal → ℕ
 numberOf Cut = 1

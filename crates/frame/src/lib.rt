@@ -1,29 +1,11 @@
-// The frames of FL-net: their fields, the refusals, and reading a frame.
-mod code;
-mod octets;
-mod position;
-mod read;
-mod refusal;
-
+// The frames of FL-net: their fields, their codes, and the numbers that a station refuses with.
 use area::Areas;
-pub use code::Code;
-pub use code::Coded;
-pub use code::carries_areas;
-pub use code::code_of;
-pub use code::is_cyclic;
-pub use code::is_token;
-pub use code::number_of_code;
-pub use read::Read;
-pub use read::data_of;
-pub use read::data_size;
-pub use read::read_body;
-pub use read::read_frame;
-pub use read::read_header;
-pub use refusal::Refusal;
-pub use refusal::number_of;
 use units::Milliseconds;
+ghost use mathlib.Core.Path.{_≡_};
+ghost use Rattle.frame.specs.Codes.{codeOf, codeNumber, isToken, isCyclic, carriesAreas};
+ghost use Rattle.frame.specs.Refusals.{numberOf};
 
-// The fields of a frame that the paper names, in its order of the header. The standard's symbol stands beside each.
+// The fields of a frame that the paper names, in the order of the header, each under the standard's symbol.
 pub struct Fields {
     // TFL
     pub length: u32,
@@ -43,4 +25,107 @@ pub struct Fields {
     pub size: u16,
     // TW
     pub watch: Milliseconds,
+}
+
+// 65000 cyclic with token, 65001 cyclic without, 65002 participation request, 65012 trigger.
+pub enum Code {
+    Token,
+    Cyclic,
+    Request,
+    Trigger,
+}
+
+pub enum Coded {
+    Known(Code),
+    Unknown,
+}
+
+// "Codes handled (document 003, B-9): 65000 cyclic with token": a match with single codes and ranges (paper 01, list of forms).
+pub fn code_of(number: u16) -> Coded
+    ensures { λ r. ⌜ r ≡ codeOf number ⌝ }
+{
+    match number {
+        65000 => Coded::Known(Code::Token),
+        65001 => Coded::Known(Code::Cyclic),
+        65002 => Coded::Known(Code::Request),
+        65012 => Coded::Known(Code::Trigger),
+        0..=64999 | 65003..=65011 | 65013..=65535 => Coded::Unknown,
+    }
+}
+
+pub fn number_of_code(code: Code) -> u16
+    ensures { λ r. ⌜ r ≡ codeNumber code ⌝ }
+{
+    match code {
+        Code::Token => 65000,
+        Code::Cyclic => 65001,
+        Code::Request => 65002,
+        Code::Trigger => 65012,
+    }
+}
+
+pub fn is_token(code: Code) -> bool
+    ensures { λ r. ⌜ r ≡ isToken code ⌝ }
+{
+    match code {
+        Code::Token => true,
+        Code::Cyclic => false,
+        Code::Request => false,
+        Code::Trigger => false,
+    }
+}
+
+pub fn is_cyclic(code: Code) -> bool
+    ensures { λ r. ⌜ r ≡ isCyclic code ⌝ }
+{
+    match code {
+        Code::Token => true,
+        Code::Cyclic => true,
+        Code::Request => false,
+        Code::Trigger => false,
+    }
+}
+
+pub fn carries_areas(code: Code) -> bool
+    ensures { λ r. ⌜ r ≡ carriesAreas code ⌝ }
+{
+    match code {
+        Code::Token => true,
+        Code::Cyclic => true,
+        Code::Request => true,
+        Code::Trigger => false,
+    }
+}
+
+// Each refusal under the paper's word for it, in the order of the numbers.
+pub enum Refusal {
+    Cut,
+    Mark,
+    Length,
+    Code,
+    Address,
+    Taken,
+    Area,
+    Block,
+    Stranger,
+    NotDue,
+    Buffer,
+}
+
+pub fn number_of(refusal: Refusal) -> u8
+    ensures { λ r. ⌜ r ≡ numberOf refusal ⌝ }
+{
+    match refusal {
+        Refusal::Cut => 1,
+        Refusal::Mark => 2,
+        Refusal::Length => 3,
+        Refusal::Code => 4,
+        Refusal::Address => 5,
+        Refusal::Taken => 6,
+        Refusal::Area => 7,
+        Refusal::Block => 8,
+        Refusal::Stranger => 9,
+        Refusal::NotDue => 10,
+        Refusal::Buffer => 11,
+    }
 }

@@ -1,0 +1,25 @@
+// Numbers of one, two and four octets, the most significant first (clause 8.3).
+ghost use mathlib.Core.Path.{_≡_};
+ghost use Prim.Native.Nat.{_+_, _<_};
+ghost use lib.ListN.{length};
+ghost use Rattle.frame.specs.Octets.{wordAt, longAt};
+
+fn wide(octet: u8) -> u16
+    ensures { λ r. ⌜ r ≡ octet ⌝ }
+{
+    octet as u16
+}
+
+pub(crate) fn word_at(s: &[u8], at: usize) -> u16
+    requires { ⌜ at + 1 < length (now s) ⌝ }
+    ensures { λ r. ⌜ r ≡ wordAt (now (s .entry)) at ⌝ }
+{
+    wide(s[at]) * 256 + wide(s[at + 1])
+}
+
+pub(crate) fn long_at(s: &[u8], at: usize) -> u32
+    requires { ⌜ at + 3 < length (now s) ⌝ }
+    ensures { λ r. ⌜ r ≡ longAt (now (s .entry)) at ⌝ }
+{
+    word_at(s, at) as u32 * 65536 + word_at(s, at + 2) as u32
+}

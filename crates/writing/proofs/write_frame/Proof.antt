@@ -1,0 +1,103 @@
+-- `writing::write_frame` meets its contract.
+use mathlib.Core.Path.{_≡_, _∙_, ap, ap₂, sym}
+use mathlib.Core.List.{List, _++_}
+use Prim.Native.Nat.{ℕ, _+_, _-_, _≤_}
+use native.Mathlib.Nat.{sub-zero}
+use lib.Seq.{length-take-le}
+use Rattle.writing.specs.Lengths.{length-header}
+use lib.ListN.{length, take, drop}
+use Rattle.copying.specs.Pasted.{pasted}
+use Rattle.copying.specs.Laws.{paste-both}
+use Rattle.reading.specs.Reading.{dataSize}
+use Rattle.writing.specs.Writing.{fixed, headerOf}
+use Rattle.writing.specs.declared.Written.the-variants.{Octets}
+use borrow.Author.Tests.{lt-leb, le-leb}
+use borrow.Author.Needs.{needs}
+use Rattle.writing.proofs.write_frame.Statement.{statement}
+use Rattle.writing.proofs.write_frame.Tie as tie
+
+-- the header in front, and the data right behind it
+joined : (out front block : List ℕ) (n : ℕ) → length front ≡ 64 → n ≤ length block → pasted (pasted out 0 front) 64 (take n block) ≡ (front ++ take n block) ++ drop (64 + n) out
+joined out front block n e enough =
+    ap (λ (k : ℕ). pasted (pasted out 0 front) k (take n block)) (sym e)
+    ∙ paste-both out front (take n block)
+    ∙ ap₂ (λ (k m : ℕ). (front ++ take n block) ++ drop (k + m) out) e (length-take-le n block enough)
+
+data-size-requires : tie.Need-data-size-requires
+data-size-requires c κs = search needs
+
+whole-length-requires : tie.Need-whole-length-requires
+whole-length-requires c κs = search needs
+
+returns : tie.Need-returns
+returns c =
+    let short = rw (c .before .before .data-size .ensures) at (c .if1 .taken) in
+    (simp (lt-leb _ _ short), simp (lt-leb _ _ short))
+
+returns-2 : tie.Need-returns-2
+returns-2 c =
+    let enough = rw (c .before .before .before .data-size .ensures) at (c .before .if1 .left) in
+    let short = rw (c .before .before .whole-length .ensures) at (c .if2 .taken) in
+    (simp (le-leb _ _ enough, lt-leb _ _ short), simp (le-leb _ _ enough, lt-leb _ _ short))
+
+fixed-fields-requires : tie.Need-fixed-fields-requires
+fixed-fields-requires c κs = search needs
+
+header-requires : tie.Need-header-requires
+header-requires c κs = search needs
+
+slice-aggregate-copy-into : tie.Need-slice-aggregate-copy-into
+slice-aggregate-copy-into c = search needs
+
+copy-into-requires : tie.Need-copy-into-requires
+copy-into-requires c κs = search needs
+
+sub-copy-into : tie.Need-sub-copy-into
+sub-copy-into c = search needs
+
+part-copy-into-start : tie.Need-part-copy-into-start
+part-copy-into-start c = search needs
+
+part-copy-into-end : tie.Need-part-copy-into-end
+part-copy-into-end c = search needs
+
+copy-into-requires-2 : tie.Need-copy-into-requires-2
+copy-into-requires-2 c κs = search needs
+
+same-length : tie.Need-same-length
+same-length c = search needs
+
+returns-3 : tie.Need-returns-3
+returns-3 c =
+    let a = c .before .before .before .before .before .before .before .before .before .before .before .before .before .before .before .before .before .before .args in
+    let out = a .output .now in
+    let block = a .block .now in
+    let front = headerOf (fixed (a .fields)) in
+    let size = c .before .before .before .before .before .before .before .before .before .before .before .before .before .before .before .data-size .ensures in
+    let enough = rw size at (c .before .before .before .before .before .before .before .before .before .before .before .before .before .if1 .left) in
+    let room = rw (c .before .before .before .before .before .before .before .before .before .before .before .before .before .before .whole-length .ensures) at (c .before .before .before .before .before .before .before .before .before .before .before .before .if2 .left) in
+    let first = c .before .before .before .before .before .before .before .copy-into .ensures ∙ ap (pasted out 0) (c .before .before .before .before .before .before .before .before .before .before .header .ensures ∙ ap headerOf (c .before .before .before .before .before .before .before .before .before .before .before .fixed-fields .ensures)) in
+    let second = c .before .before .copy-into2 .ensures ∙ ap (λ (l : List ℕ). pasted l 64 (take (c .before .before .before .before .before .before .before .before .before .before .before .before .before .before .before .data-size .result - 0) block)) first in
+    let whole = ap (λ (k : ℕ). pasted (pasted out 0 front) 64 (take k block)) (sub-zero _ ∙ size) in (
+      simp (le-leb _ _ enough, le-leb _ _ room) (ap Octets (c .before .before .before .before .before .before .before .before .before .before .before .before .before .before .whole-length .ensures)),
+      simp (le-leb _ _ enough, le-leb _ _ room) (second ∙ whole ∙ joined out front block (dataSize (a .fields)) (length-header _) enough),
+    )
+
+pub write-frame-spec : {M : Type 1} → statement M
+write-frame-spec =
+    tie.close
+    (tie.spec
+    data-size-requires
+    whole-length-requires
+    returns
+    returns-2
+    fixed-fields-requires
+    header-requires
+    slice-aggregate-copy-into
+    copy-into-requires
+    sub-copy-into
+    part-copy-into-start
+    part-copy-into-end
+    copy-into-requires-2
+    same-length
+    returns-3)
