@@ -1,6 +1,6 @@
 -- Laws of tests, as values of Bool. Assumes nothing.
 use mathlib.Core.Path.{_≡_, refl}
-use mathlib.Core.Bool.{Bool, true, false, _&&_, _||_, false≢true}
+use mathlib.Core.Bool.{Bool, true, false, not, _&&_, _||_, false≢true}
 
 -- a test of two parts holds where both parts do
 pub both : {a b : Bool} → a ≡ true → b ≡ true → (a && b) ≡ true
@@ -13,3 +13,8 @@ first false b e = e
 pub second : (a b : Bool) → (a && b) ≡ true → b ≡ true
 second true b e = e
 second false b e = absurd (false≢true e)
+
+-- a test that is asked only where another holds
+pub implied : (a b : Bool) → (not a || b) ≡ true → a ≡ true → b ≡ true
+implied true b e h = e
+implied false b e h = absurd (false≢true h)
