@@ -1,0 +1,3 @@
+-- The definitions of this crate, and what is proved of them.
+pub mod Hexadecimal
+pub mod Gathering
