@@ -64,6 +64,15 @@ answerBy count buffer Bad = answers.Bad
 abbrev pub answered : Gathered → List ℕ → Answer
 answered gathered buffer = answerBy (gathered .count) buffer (gathered .pending)
 
+-- whether any octet of the line has come
+abbrev pub begunBy : ℕ → Pending → Bool
+begunBy count Nothing = ltb 0 count
+begunBy count (Half digit) = true
+begunBy count Bad = true
+
+abbrev pub begun : Gathered → Bool
+begun gathered = begunBy (gathered .count) (gathered .pending)
+
 -- the octets of a text from place `at` on, up to its next line feed or its end: what has come then, the place behind, and whether the line
 -- has ended
 abbrev pub scanned : ℕ → Gathered → ℕ → List ℕ → Scanned

@@ -6,7 +6,7 @@ ghost use mathlib.Core.Path.{_≡_};
 ghost use lib.ListN.{length, set, take, drop};
 ghost use Rattle.reading.specs.Reading.{readOf};
 ghost use Rattle.decoding.specs.Hexadecimal.{digitOf};
-ghost use Rattle.decoding.specs.Gathering.{fresh, octetOf, countAfter, placed, stored, pushed, bufferAfter, answered, scanned, bufferScanned};
+ghost use Rattle.decoding.specs.Gathering.{fresh, octetOf, countAfter, placed, stored, pushed, bufferAfter, answered, begun, scanned, bufferScanned};
 
 // What an octet of the line stands for.
 pub enum Hexadecimal {
@@ -165,5 +165,17 @@ pub fn answer_to(gathered: Gathered, buffer: &[u8]) -> Answer
         Pending::Nothing => Answer::Heard(hear(gathered.count, buffer)),
         Pending::Half(_) => Answer::Bad,
         Pending::Bad => Answer::Bad,
+    }
+}
+
+// Whether any octet of the line has come.
+pub fn has_begun(gathered: Gathered) -> bool
+    ensures { λ r. ⌜ r ≡ begun gathered ⌝ }
+{
+    let pending = gathered.pending;
+    match pending {
+        Pending::Nothing => 0 < gathered.count,
+        Pending::Half(_) => true,
+        Pending::Bad => true,
     }
 }
