@@ -16,14 +16,14 @@ use Rattle.frame.specs.declared.Code.{Code}
 use Rattle.frame.specs.declared.Code.the-variants.{Token, Cyclic, Request, Trigger}
 use Rattle.frame.specs.declared.Coded.the-variants.{Known, Unknown}
 use Rattle.frame.specs.declared.Fields.{Fields}
-use Rattle.reading.specs.Accepted.{Accepted, accepted}
-use Rattle.reading.specs.Shown.{source-is, destination-is, areas-are, block-is, length-is}
+use Rattle.round_trip.specs.Accepted.{Accepted, accepted}
+use Rattle.round_trip.specs.Shown.{source-is, destination-is, areas-are, block-is, length-is}
 use Rattle.reading.specs.Reading.{fieldsOf, readOf, dataSize, dataOf}
 use Rattle.reading.specs.declared.Read.the-variants.{Frame}
-use Rattle.writing.specs.Digits.{high-back, low-back, first-back, second-back, third-back, fourth-back}
-use Rattle.writing.specs.Places.{lengthPlaces, fieldPlaces, freePlaces, fixedPlaces, without, among, octetsAt}
-use Rattle.writing.specs.ReadBack.{Sendable, data-read}
+use Rattle.round_trip.specs.Digits.{high-back, low-back, first-back, second-back, third-back, fourth-back}
+use Rattle.round_trip.specs.Places.{lengthPlaces, fieldPlaces, freePlaces, fixedPlaces, without, among, octetsAt}
+use Rattle.round_trip.specs.ReadBack.{Sendable, data-read}
 use Rattle.writing.specs.Writing.{fixedFor, fixed, headerOf, frameOf, wholeLength}
 
 -- the list holds octets
 abbrev pub Octets : List ℕ → Type 0

@@ -19,12 +19,12 @@ use Rattle.frame.specs.declared.Code.{Code}
 use Rattle.frame.specs.declared.Code.the-variants.{Token, Cyclic, Request, Trigger}
 use Rattle.frame.specs.declared.Coded.the-variants.{Known}
 use Rattle.frame.specs.declared.Fields.{Fields}
-use Rattle.reading.specs.Accepted.{Accepted, reads}
+use Rattle.round_trip.specs.Accepted.{Accepted, reads}
 use Rattle.reading.specs.Reading.{whole, marked, fieldsOf, isStation, addressed, ranged, blocked, readOf, dataSize, dataOf}
 use Rattle.reading.specs.declared.Read.the-variants.{Frame}
-use Rattle.writing.specs.Digits.{word-back, long-back}
+use Rattle.round_trip.specs.Digits.{word-back, long-back}
 use Rattle.writing.specs.Lengths.{length-header, length-frame}
 use Rattle.writing.specs.Writing.{fixedFor, fixed, headerOf, frameOf, wholeLength, everyone, noAreas}
 
 -- the fields that a station can send: numbers of stations, areas in range, and a block that the areas have
 pub record Sendable (fields : Fields) : Type 0 where

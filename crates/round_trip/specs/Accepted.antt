@@ -1,29 +1,28 @@
 -- A list of octets is read as fields just where it passes every test, and the fields are those that stand in it. Assumes nothing.
-use mathlib.Core.Path.{_≡_, refl, ap, subst, sym, _∙_}
-use mathlib.Core.Bool.{Bool, true, false, not, _||_}
+use mathlib.Core.Path.{_≡_, refl, ap, sym, _∙_}
+use mathlib.Core.Bool.{Bool, true, false, not, _||_, false≢true}
 use mathlib.Core.List.{List}
 use Prim.Native.Nat.{ℕ}
 use native.Mathlib.Omega.{arith}
-use lib.Dec.{eqb}
 use lib.ListN.{length}
-use Rattle.frame.specs.Codes.{codeOf, isCyclic}
-use Rattle.frame.specs.Octets.{wordAt, longAt}
-use Rattle.frame.specs.Positions.{TFL, TCD}
+use Rattle.frame.specs.Codes.{codeOf, isKnown, codeFrom, isCyclic}
+use Rattle.frame.specs.Octets.{wordAt}
+use Rattle.frame.specs.Positions.{TCD}
 use Rattle.frame.specs.declared.Code.{Code}
 use Rattle.frame.specs.declared.Coded.{Coded}
 use Rattle.frame.specs.declared.Coded.the-variants.{Known, Unknown}
 use Rattle.frame.specs.declared.Fields.{Fields}
 use Rattle.frame.specs.declared.Refusal.{Refusal}
 use Rattle.frame.specs.declared.Refusal.the-variants as refusals
-use Rattle.reading.specs.Reading.{need, andThen, whole, marked, fieldsOf, addressed, ranged, blocked, readCodeOf, readHeaderOf, readBodyOf, readOf}
+use Rattle.reading.specs.Reading.{need, andThen, whole, marked, long, coded, codeIn, fieldsOf, addressed, ranged, blocked, readHeaderOf, readBodyOf, readOf}
 use Rattle.reading.specs.declared.Read.{Read}
 use Rattle.reading.specs.declared.Read.the-variants.{Frame, Refused}
 
 -- the octets pass each test, in the order of the refusals, and hold the fields
 pub record Accepted (s : List ℕ) (fields : Fields) : Type 0 where
   pub is-whole : whole s ≡ true
   pub is-marked : marked s ≡ true
-  pub is-long : eqb (longAt s TFL) (length s) ≡ true
+  pub is-long : long s ≡ true
   pub is-coded : codeOf (wordAt s TCD) ≡ Known (fields .code)
   pub holds : fieldsOf (fields .code) s ≡ fields
   pub is-addressed : addressed fields ≡ true
@@ -32,7 +31,8 @@ pub record Accepted (s : List ℕ) (fields : Fields) : Type 0 where
 
 pub reads : {s : List ℕ} {fields : Fields} → Accepted s fields → readOf s ≡ Frame fields
 unfolding readOf
-reads a = simp (a .is-whole, a .is-marked, a .is-long, a .is-coded, a .holds, a .is-addressed) (simp (a .is-ranged, a .is-blocked))
+reads a =
+    simp (a .is-whole, a .is-marked, a .is-long, a .is-coded, a .holds, a .is-addressed) (simp (a .is-ranged, a .is-blocked))
 
 -- a test that stands before a frame held
 passed : (test : Bool) (refusal : Refusal) (rest : Read) (fields : Fields) → need test refusal rest ≡ Frame fields → (test ≡ true) × (rest ≡ Frame fields)
@@ -42,23 +42,41 @@ passed false refusal rest fields e = let z : _≡_ {A = ℕ} 0 1 = cc in absurd 
 same : {f g : Fields} → Frame f ≡ Frame g → f ≡ g
 same e = cc
 
--- what refusals 4 and 5 let through
-record Coding (coded : Coded) (s : List ℕ) (fields : Fields) : Type 0 where
-  is-coded : coded ≡ Known (fields .code)
+-- a code that passed refusal 4
+known : (found : Coded) → isKnown found ≡ true → found ≡ Known (codeFrom found)
+known (Known code) e = refl
+known Unknown e = absurd (false≢true e)
+
+-- what refusals 1 to 5 let through
+record Headed (s : List ℕ) (fields : Fields) : Type 0 where
+  is-whole : whole s ≡ true
+  is-marked : marked s ≡ true
+  is-long : long s ≡ true
+  is-coded : codeOf (wordAt s TCD) ≡ Known (fields .code)
   holds : fieldsOf (fields .code) s ≡ fields
   is-addressed : addressed fields ≡ true
 
-coding : (coded : Coded) (s : List ℕ) (fields : Fields) → readCodeOf coded s ≡ Frame fields → Coding coded s fields
+headed : (s : List ℕ) (fields : Fields) → readHeaderOf s ≡ Frame fields → Headed s fields
 unfolding fieldsOf
-coding Unknown s fields e = let z : _≡_ {A = ℕ} 0 1 = cc in absurd (omega arith)
-coding (Known code) s fields e =
-    let p = passed (addressed (fieldsOf code s)) refusals.Address (Frame (fieldsOf code s)) fields e in
-    let h : fieldsOf code s ≡ fields = same (p .1) in
-    let k : code ≡ fields .code = ap (λ (f : Fields). f .code) h in
+headed s fields e =
+    let found = fieldsOf (codeIn s) s in
+    let five = need (addressed found) refusals.Address (Frame found) in
+    let four = need (coded s) refusals.Code five in
+    let three = need (long s) refusals.Length four in
+    let a = passed (whole s) refusals.Cut (need (marked s) refusals.Mark three) fields e in
+    let b = passed (marked s) refusals.Mark three fields (a .1) in
+    let c = passed (long s) refusals.Length four fields (b .1) in
+    let d = passed (coded s) refusals.Code five fields (c .1) in
+    let f = passed (addressed found) refusals.Address (Frame found) fields (d .1) in
+    let h : found ≡ fields = same (f .1) in
+    let k : codeIn s ≡ fields .code = ap (λ (g : Fields). g .code) h in
     record {
-      is-coded = ap Known k;
-      holds = ap (λ (c : Code). fieldsOf c s) (sym k) ∙ h;
-      is-addressed = ap addressed (sym h) ∙ p .0;
+      is-whole = a .0;
+      is-marked = b .0;
+      is-long = c .0;
+      is-coded = known (codeOf (wordAt s TCD)) (d .0) ∙ ap Known k;
+      holds = ap (λ (code : Code). fieldsOf code s) (sym k) ∙ h;
+      is-addressed = ap addressed (sym h) ∙ f .0;
     }
 
 -- what refusals 7 and 8 let through
@@ -88,19 +106,14 @@ unfolding readOf
 accepted s fields e =
     let p = split (readHeaderOf s) (readBodyOf (length s)) fields e in
     let b = bodied (length s) (p .0) fields (p .2) in
-    let h : readHeaderOf s ≡ Frame fields = p .1 ∙ ap Frame (b .is-same) in
-    let long = need (eqb (longAt s TFL) (length s)) refusals.Length (readCodeOf (codeOf (wordAt s TCD)) s) in
-    let first = passed (whole s) refusals.Cut (need (marked s) refusals.Mark long) fields h in
-    let second = passed (marked s) refusals.Mark long fields (first .1) in
-    let third = passed (eqb (longAt s TFL) (length s)) refusals.Length (readCodeOf (codeOf (wordAt s TCD)) s) fields (second .1) in
-    let c = coding (codeOf (wordAt s TCD)) s fields (third .1) in
+    let h = headed s fields (p .1 ∙ ap Frame (b .is-same)) in
     record {
-      is-whole = first .0;
-      is-marked = second .0;
-      is-long = third .0;
-      is-coded = c .is-coded;
-      holds = c .holds;
-      is-addressed = c .is-addressed;
+      is-whole = h .is-whole;
+      is-marked = h .is-marked;
+      is-long = h .is-long;
+      is-coded = h .is-coded;
+      holds = h .holds;
+      is-addressed = h .is-addressed;
       is-ranged = b .is-ranged;
       is-blocked = b .is-blocked;
     }

@@ -15,9 +15,9 @@ use Rattle.frame.specs.declared.Fields.{Fields}
 use Rattle.reading.specs.Reading.{isStation, readOf, dataSize}
 use Rattle.reading.specs.declared.Read.the-variants.{Frame}
 use Rattle.units.specs.declared.Milliseconds.{Milliseconds}
-use Rattle.writing.specs.ReadBack.{Sendable, fields-read}
-use Rattle.writing.specs.Sent.{blockFields, requestFields, triggerFields}
+use Rattle.round_trip.specs.ReadBack.{Sendable, fields-read}
+use Rattle.round_trip.specs.Sent.{blockFields, requestFields, triggerFields}
 use Rattle.writing.specs.Writing.{fixedFor, fixed, frameOf}
 
 -- a cyclic frame whose TFL is right has nothing fixed otherwise
 fixed-cyclic : (fields : Fields) → isCyclic (fields .code) ≡ true → carriesAreas (fields .code) ≡ true → 64 + fields .size ≡ fields .length → fixed fields ≡ fields
