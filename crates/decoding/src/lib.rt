@@ -57,10 +57,8 @@ pub fn digit_of(octet: u8) -> Hexadecimal
 pub fn start() -> Gathered
     ensures { λ r. ⌜ r ≡ fresh ⌝ }
 {
-    Gathered {
-        count: 0,
-        pending: Pending::Nothing,
-    }
+    let pending = Pending::Nothing;
+    Gathered { count: 0, pending }
 }
 
 // Stores an octet, where the buffer has room for it.

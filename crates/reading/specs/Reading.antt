@@ -5,7 +5,7 @@ use mathlib.Core.List.{List}
 use lib.Dec.{leb, eqb}
 use lib.ListN.{length, drop}
 use Rattle.area.specs.Areas.{inRange}
-use Rattle.area.specs.Blocks.{blocksOf, lengthOf}
+use Rattle.block.specs.Blocks.{blocksOf, lengthOf}
 use Rattle.frame.specs.Codes.{codeOf, isKnown, codeFrom, isToken, isCyclic, carriesAreas}
 use Rattle.frame.specs.Octets.{octetAt, wordAt, longAt}
 use Rattle.frame.specs.Positions.{TFL, SNA, DNA, TCD, C-AD1, C-SZ1, C-AD2, C-SZ2, CBN, TBN, BSIZE, TW}

@@ -87,9 +87,9 @@ fn is_blocked(given: usize, fields: Fields) -> bool
     ensures { λ r. ⌜ r ≡ blocked given fields ⌝ }
 {
     let areas = fields.areas;
-    let total = fields.blocks as usize == area::blocks(areas);
+    let total = fields.blocks as usize == block::blocks(areas);
     let number = (1 <= fields.block) & (fields.block <= fields.blocks);
-    let size = fields.size as usize == area::block_length(areas, fields.block);
+    let size = fields.size as usize == block::block_length(areas, fields.block);
     let header = header_part(given, fields.size as usize);
     total & (number & (size & ((64 <= header) & (header <= 96))))
 }

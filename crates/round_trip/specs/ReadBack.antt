@@ -9,8 +9,8 @@ use lib.ListN.{length, take, drop, length-append}
 use lib.Seq.{drop-at}
 use borrow.Author.Tests.{le-leb, eq-eqb}
 use Rattle.area.specs.Areas.{inRange}
-use Rattle.area.specs.Blocks.{blocksOf, lengthOf}
-use Rattle.area.specs.Cut.{at-most}
+use Rattle.block.specs.Blocks.{blocksOf, lengthOf}
+use Rattle.block.specs.Cut.{at-most}
 use Rattle.area.specs.declared.Areas.{Areas}
 use Rattle.frame.specs.Codes.{codeOf, codeNumber, isToken, isCyclic, carriesAreas}
 use Rattle.frame.specs.Octets.{wordAt, longAt}

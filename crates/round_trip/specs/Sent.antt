@@ -2,7 +2,7 @@
 use Prim.Native.Nat.{ℕ, _+_}
 use mathlib.Core.Bool.{cond}
 use lib.Dec.{eqb}
-use Rattle.area.specs.Blocks.{blocksOf, lengthOf}
+use Rattle.block.specs.Blocks.{blocksOf, lengthOf}
 use Rattle.area.specs.declared.Areas.{Areas}
 use Rattle.frame.specs.Positions.{headerLength}
 use Rattle.frame.specs.declared.Code.the-variants.{Token, Cyclic, Request, Trigger}

@@ -7,7 +7,7 @@ use native.Mathlib.Nat.{le-refl}
 use lib.Dec.{eqb}
 use lib.ListN.{length}
 use Rattle.area.specs.Areas.{inRange}
-use Rattle.area.specs.Blocks.{blocksOf, lengthOf}
+use Rattle.block.specs.Blocks.{blocksOf, lengthOf}
 use Rattle.area.specs.declared.Areas.{Areas}
 use Rattle.frame.specs.Codes.{isCyclic, isToken, carriesAreas}
 use Rattle.frame.specs.declared.Code.the-variants.{Token, Cyclic}

@@ -8,7 +8,7 @@ use lib.ListN.{length}
 use borrow.Author.Tests.{leb-true, eqb-true}
 use Rattle.laws.specs.Tests.{first, second, implied}
 use Rattle.area.specs.Areas.{inRange}
-use Rattle.area.specs.Blocks.{blocksOf, lengthOf}
+use Rattle.block.specs.Blocks.{blocksOf, lengthOf}
 use Rattle.frame.specs.Codes.{isToken, isCyclic, carriesAreas}
 use Rattle.frame.specs.Octets.{longAt}
 use Rattle.frame.specs.Positions.{TFL}

@@ -52,7 +52,7 @@ fixedFor code fields = record {
 abbrev pub fixed : Fields → Fields
 fixed fields = fixedFor (fields .code) fields
 
--- four octets of the header: as they are, one number, a number in the last, two numbers
+-- four octets of the header: as they are; one number of four octets; two numbers of two
 abbrev pub four : ℕ → ℕ → ℕ → ℕ → List ℕ
 four a b c d = a ∷ b ∷ c ∷ d ∷ []
 

@@ -1,7 +1,8 @@
 -- `writing::write_frame` meets its contract.
 use mathlib.Core.Path.{_≡_, _∙_, ap, ap₂, sym}
 use mathlib.Core.List.{List, _++_}
-use Prim.Native.Nat.{ℕ, _+_, _-_, _≤_}
+use Prim.Native.Nat.{ℕ, _+_, _-_, _≤_, _<_}
+use native.Mathlib.Omega.{arith}
 use native.Mathlib.Nat.{sub-zero}
 use lib.ListN.{length, take, drop}
 use lib.Seq.{length-take-le}
@@ -11,7 +12,7 @@ use Rattle.copying.specs.Pasted.{pasted}
 use Rattle.frame.specs.declared.Fields.{Fields}
 use Rattle.reading.specs.Reading.{dataSize}
 use Rattle.writing.specs.Lengths.{length-header}
-use Rattle.writing.specs.Writing.{fixed, headerOf}
+use Rattle.writing.specs.Writing.{fixed, headerOf, wholeLength}
 use Rattle.writing.specs.declared.Written.the-variants.{Octets}
 use borrow.Author.Needs.{needs}
 use Rattle.writing.proofs.write_frame.Statement.{statement}
@@ -32,13 +33,15 @@ whole-length-requires c κs = search needs
 
 returns : tie.Need-returns
 returns c =
-    let short = rw (c .before .before .data-size .ensures) at (c .if1 .taken) in
+    let a = c .before .before .before .before .before .args in
+    let short : length (a .block .now) < dataSize (a .fields) = omega (arith, c .before .before .data-size .ensures, c .if1 .taken) in
     (simp (lt-leb _ _ short), simp (lt-leb _ _ short))
 
 returns-2 : tie.Need-returns-2
 returns-2 c =
-    let enough = rw (c .before .before .before .data-size .ensures) at (c .before .if1 .left) in
-    let short = rw (c .before .before .whole-length .ensures) at (c .if2 .taken) in
+    let a = c .before .before .before .before .before .before .args in
+    let enough : dataSize (a .fields) ≤ length (a .block .now) = omega (arith, c .before .before .before .data-size .ensures, c .before .if1 .left) in
+    let short : length (a .output .now) < wholeLength (a .fields) = omega (arith, c .before .before .whole-length .ensures, c .if2 .taken) in
     (simp (le-leb _ _ enough, lt-leb _ _ short), simp (le-leb _ _ enough, lt-leb _ _ short))
 
 fixed-fields-requires : tie.Need-fixed-fields-requires
@@ -69,8 +72,8 @@ returns-3 c =
     let block = a .block .now in
     let front = headerOf (fixed (a .fields)) in
     let size = c .before .before .before .before .before .before .before .before .before .before .before .before .before .data-size .ensures in
-    let enough = rw size at (c .before .before .before .before .before .before .before .before .before .before .before .if1 .left) in
-    let room = rw (c .before .before .before .before .before .before .before .before .before .before .before .before .whole-length .ensures) at (c .before .before .before .before .before .before .before .before .before .before .if2 .left) in
+    let enough : dataSize (a .fields) ≤ length block = omega (arith, size, c .before .before .before .before .before .before .before .before .before .before .before .if1 .left) in
+    let room : wholeLength (a .fields) ≤ length out = omega (arith, c .before .before .before .before .before .before .before .before .before .before .before .before .whole-length .ensures, c .before .before .before .before .before .before .before .before .before .before .if2 .left) in
     let first = c .before .before .before .before .before .before .before .write-header .ensures ∙ ap (λ (f : Fields). pasted out 0 (headerOf f)) (c .before .before .before .before .before .before .before .before .before .fixed-fields .ensures) in
     let second = c .before .before .copy-into .ensures ∙ ap (λ (l : List ℕ). pasted l 64 (take (c .before .before .before .before .before .before .before .before .before .before .before .before .before .data-size .result - 0) block)) first in
     let whole = ap (λ (k : ℕ). pasted (pasted out 0 front) 64 (take k block)) (sub-zero _ ∙ size) in (

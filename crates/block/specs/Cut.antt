@@ -5,10 +5,10 @@ use Prim.Native.Nat.{ℕ, _+_, _≤_, _<_}
 use native.Mathlib.Omega.{arith}
 use borrow.Author.Tests.{leb-true}
 use Rattle.laws.specs.Tests.{first, second}
 use Rattle.area.specs.Areas.{inArea, inRange, memoryOctets}
-use Rattle.area.specs.Blocks.{octetsOf, blocksOf, startOf, lengthOf}
+use Rattle.block.specs.Blocks.{octetsOf, blocksOf, startOf, lengthOf}
 use Rattle.area.specs.declared.Area.the-variants.{One, Two}
 use Rattle.area.specs.declared.Areas.{Areas}
 
 module _ (areas : Areas) where
   -- every block but the last is whole

@@ -1,8 +1,8 @@
 // A turn's data and the blocks that they are cut into.
-use crate::Areas;
+use area::Areas;
 ghost use mathlib.Core.Path.{_≡_};
 ghost use Prim.Native.Nat.{_-_, min};
-ghost use Rattle.area.specs.Blocks.{octetsOf, blocksOf, lengthOf};
+ghost use Rattle.block.specs.Blocks.{octetsOf, blocksOf, lengthOf};
 
 fn least(a: usize, b: usize) -> usize
     ensures { λ r. ⌜ r ≡ min a b ⌝ }
