@@ -1,0 +1,35 @@
+-- Paper 01, "The panel": "Ticks from one taking of the token to our next, shown in tenths: 63 shows `6.3`, 5 shows `0.5`." "Taking" is the
+-- paper's own term for a step that gives us the token.
+use Prim.Native.Nat.{ℕ, _+_, _/_, _%_, min}
+use mathlib.Core.Bool.{cond}
+use mathlib.Core.List.{List, [], _∷_, _++_}
+use lib.Dec.{ltb}
+use Rattle.text.specs.Decimal.{decimalOf}
+use Rattle.panel.specs.declared.Figure.{Figure}
+use Rattle.panel.specs.declared.Figure.the-variants.{Nothing, Over, Gap}
+use Rattle.panel.specs.declared.Panel.{Panel}
+
+-- no taking yet
+abbrev pub blank : Panel
+blank = record { takings = 0; running = record { 0 = 0 }; gap = record { 0 = 0 } }
+
+-- a count of ticks stops at 65,536, which is already over
+abbrev pub counted : ℕ → ℕ
+counted ticks = min 65536 (ticks + 1)
+
+abbrev pub ticked : Panel → Panel
+ticked panel = record { takings = panel .takings; running = record { 0 = counted (panel .running .0) }; gap = panel .gap }
+
+-- a taking ends one gap and starts the next
+abbrev pub taken : Panel → Panel
+taken panel = record { takings = min 2 (panel .takings + 1); running = record { 0 = 0 }; gap = panel .running }
+
+-- "With fewer than two takings since we last began to participate .. `--`; above 65,535 ticks `OVER`."
+abbrev pub figureOf : Panel → Figure
+figureOf panel = cond (ltb (panel .takings) 2) Nothing (cond (ltb 65535 (panel .gap .0)) Over (Gap (panel .gap .0)))
+
+-- the text of a figure, in ASCII
+abbrev pub textOf : Figure → List ℕ
+textOf Nothing = 0x2d ∷ 0x2d ∷ []
+textOf Over = 0x4f ∷ 0x56 ∷ 0x45 ∷ 0x52 ∷ []
+textOf (Gap ticks) = decimalOf (ticks / 10) ++ (0x2e ∷ decimalOf (ticks % 10))

@@ -1,0 +1,81 @@
+-- The state of a station at the beginning of each phase.
+use Prim.Native.Nat.{ℕ}
+use mathlib.Core.Bool.{Bool, true, false, cond}
+use lib.Dec.{eqb}
+use Rattle.area.specs.declared.Areas.{Areas}
+use Rattle.members.specs.Members.{noMembers}
+use Rattle.members.specs.declared.Members.{Members}
+use Rattle.panel.specs.Panel.{blank, taken}
+use Rattle.panel.specs.declared.Panel.{Panel}
+use Rattle.units.specs.declared.Ticks.{Ticks}
+use Rattle.writing.specs.Writing.{noAreas, noWatch}
+use Rattle.station.specs.declared.Gathering.{Gathering}
+use Rattle.station.specs.declared.Phase.{Phase}
+use Rattle.station.specs.declared.Phase.the-variants.{Off, Listening, Startup, Joining, Participating}
+use Rattle.station.specs.declared.Settings.{Settings}
+use Rattle.station.specs.declared.Station.{Station}
+
+abbrev pub isOff : Phase → Bool
+isOff Off = true
+isOff Listening = false
+isOff Startup = false
+isOff Joining = false
+isOff Participating = false
+
+abbrev pub isParticipating : Phase → Bool
+isParticipating Off = false
+isParticipating Listening = false
+isParticipating Startup = false
+isParticipating Joining = false
+isParticipating Participating = true
+
+abbrev pub noTicks : Ticks
+noTicks = record { 0 = 0 }
+
+-- nothing gathered
+abbrev pub nothing : Gathering
+nothing = record { source = 0; blocks = 0 }
+
+-- a phase that begins "with an empty list", and with nothing left of what was before
+abbrev pub fresh : Phase → Settings → Station
+fresh phase own = record {
+  phase = phase;
+  own = own;
+  members = noMembers;
+  elapsed = noTicks;
+  waited = noTicks;
+  rounds = 0;
+  sent = false;
+  view = 0;
+  block = 0;
+  gathering = nothing;
+  panel = blank;
+}
+
+-- "Stop turns off, empties the list and drops what was gathered." It forgets everything but the number last started with.
+abbrev pub stopped : Station → Station
+stopped station = fresh Off (record { number = station .own .number; areas = noAreas; watch = noWatch })
+
+-- a station that was never started
+abbrev pub never : Station
+never = fresh Off (record { number = 0; areas = noAreas; watch = noWatch })
+
+-- "It holds when the view is its own number."
+abbrev pub holds : Station → Bool
+holds station = eqb (station .view) (station .own .number)
+
+-- we begin to participate: the watch starts afresh, and beginning "with our own number in view" is a taking
+abbrev pub begun : Settings → Members → ℕ → Station
+begun own members view = record {
+  phase = Participating;
+  own = own;
+  members = members;
+  elapsed = noTicks;
+  waited = noTicks;
+  rounds = 0;
+  sent = false;
+  view = view;
+  block = 0;
+  gathering = nothing;
+  panel = cond (eqb view (own .number)) (taken blank) blank;
+}
