@@ -1,11 +1,12 @@
 -- Laws of putting one list into another. Assumes nothing.
-use mathlib.Core.Path.{_≡_, _∙_, ap, sym}
-use mathlib.Core.List.{List, _++_, append-assoc}
-use Prim.Native.Nat.{ℕ, _+_, _≤_}
-use native.Mathlib.Nat.{zero-add}
+use mathlib.Core.Path.{_≡_, _∙_, ap, ap₂, sym}
+use mathlib.Core.List.{List, [], _∷_, _++_, append-assoc}
+use Prim.Native.Nat.{ℕ, suc, _+_, _≤_, _<_}
+use native.Mathlib.Numerals.{add-one}
+use native.Mathlib.Nat.{zero-add, add-zero}
 use native.Mathlib.Omega.{arith}
-use lib.ListN.{length, take, drop, length-append, length-take, length-drop}
-use lib.Seq.{take-append-seam, drop-append-add, drop-drop}
+use lib.ListN.{length, take, drop, getD, set, take-append-drop, length-append, length-take, length-drop}
+use lib.Seq.{take-append-seam, drop-append-add, drop-drop, drop-cons, append-snoc, set-at, set-split, take-at}
 use Rattle.copying.specs.Pasted.{pasted}
 
 pub paste-front : (d s : List ℕ) → pasted d 0 s ≡ s ++ drop (length s) d
@@ -25,3 +26,37 @@ paste-both d s t =
 -- no list grows or shrinks by it
 pub length-pasted : (d s : List ℕ) (at : ℕ) → at + length s ≤ length d → length (pasted d at s) ≡ length d
 length-pasted d s at h = simp (length-append, length-take, length-drop) (omega arith)
+
+-- one octet behind what was put in
+pub paste-more : (d s : List ℕ) (at x : ℕ) → at + length s < length d → set (pasted d at s) (at + length s) x ≡ pasted d at (s ++ (x ∷ []))
+paste-more d s at x h =
+    let front : length (take at d ++ s) ≡ at + length s = simp (length-append, length-take) (omega arith) in
+    let end : at + length (s ++ (x ∷ [])) ≡ suc (at + length s) = rw (length-append s (x ∷ [])) (omega arith) in
+    ap (λ (l : List ℕ). set (take at d ++ (s ++ l)) (at + length s) x) (drop-cons d (at + length s) 0 h)
+    ∙ ap (λ (l : List ℕ). set l (at + length s) x) (sym (append-assoc (take at d) s (getD d (at + length s) 0 ∷ drop (suc (at + length s)) d)))
+    ∙ set-at (take at d ++ s) (getD d (at + length s) 0) (drop (suc (at + length s)) d) x (at + length s) front
+    ∙ append-assoc (take at d) s (x ∷ drop (suc (at + length s)) d)
+    ∙ ap (λ (l : List ℕ). take at d ++ l) (sym (append-snoc s x (drop (suc (at + length s)) d)) ∙ ap (λ (k : ℕ). s ++ (x ∷ []) ++ drop k d) (sym end))
+
+pub paste-one : (d : List ℕ) (at x : ℕ) → at < length d → set d at x ≡ pasted d at (x ∷ [])
+paste-one d at x h = set-split d at x h ∙ ap (λ (k : ℕ). take at d ++ (x ∷ drop k d)) (sym (add-one at))
+
+-- a second list right behind the first is the two put in as one
+pub paste-append : (d s t : List ℕ) (at : ℕ) → at + length s ≤ length d → pasted (pasted d at s) (at + length s) t ≡ pasted d at (s ++ t)
+paste-append d s t at h =
+    let front : length (take at d ++ s) ≡ at + length s = simp (length-append, length-take) (omega arith) in
+    let rest = drop (at + length s) d in
+    let whole : pasted d at s ≡ (take at d ++ s) ++ rest = sym (append-assoc (take at d) s rest) in
+    let end : at + length s + length t ≡ at + length (s ++ t) = rw (length-append s t) (omega arith) in
+    let after : drop (at + length s + length t) (pasted d at s) ≡ drop (at + length (s ++ t)) d =
+    ap₂ (λ (k : ℕ) (l : List ℕ). drop (k + length t) l) (sym front) whole
+    ∙ drop-append-add (take at d ++ s) rest (length t)
+    ∙ drop-drop (length t) (at + length s) d
+    ∙ ap (λ (k : ℕ). drop k d) end in
+    ap₂ (λ (l m : List ℕ). l ++ (t ++ m)) (ap (take (at + length s)) whole ∙ take-at (take at d ++ s) rest (at + length s) front) after
+    ∙ append-assoc (take at d) s (t ++ drop (at + length (s ++ t)) d)
+    ∙ ap (λ (l : List ℕ). take at d ++ l) (sym (append-assoc s t (drop (at + length (s ++ t)) d)))
+
+-- nothing put in
+pub paste-nothing : (d : List ℕ) (at : ℕ) → pasted d at [] ≡ d
+paste-nothing d at = ap (λ (k : ℕ). take at d ++ drop k d) (add-zero at) ∙ take-append-drop at d
