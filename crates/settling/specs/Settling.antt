@@ -39,7 +39,7 @@ pub record Settles (ns : List ℕ) (views : Views) (before later : List Event) :
       → (x : ℕ) → x ∈ ns → given ns x window ≡ 1
 
 -- n(n-1) and n are n×n together
-square : (n : ℕ) → n * (n - 1) + n ≡ n * n
+pub square : (n : ℕ) → n * (n - 1) + n ≡ n * n
 square zero = refl
 square (suc m) =
     let less : suc m - 1 ≡ m = omega arith in
