@@ -1,4 +1,4 @@
--- The answer for an input of any size is the answer for its first 2,048 octets. Assumes nothing.
+-- The answer for an input of any size is the answer for its first 2,040 octets, or more of them. Assumes nothing.
 use mathlib.Core.Path.{_≡_, refl, ap, ap₂, sym, _∙_, subst}
 use mathlib.Core.Bool.{Bool, true, false, cond}
 use mathlib.Core.Logic.{_⊎_, inl, inr}
@@ -181,14 +181,14 @@ bad-front (suc fuel) number below m views octets h room = go (decLt 0 (length oc
 names : (octets : List ℕ) → 0 < length octets → ¬ (formsOf octets .bad ≡ 0) → readOf octets ≡ bad (formsOf octets .bad)
 names octets some n = rw (ne-eqb (length octets) 0 (λ z. omega arith), ne-eqb _ _ n)
 
-pub read-prefix : (octets : List ℕ) → readOf (take 2048 octets) ≡ readOf octets
-read-prefix octets = go (decLe (length octets) 2048)
+pub read-prefix : (m : ℕ) (octets : List ℕ) → 2040 ≤ m → readOf (take m octets) ≡ readOf octets
+read-prefix m octets room = go (decLe (length octets) m)
   where
-    go : Dec (length octets ≤ 2048) → readOf (take 2048 octets) ≡ readOf octets
-    go (yes h) = ap readOf (take-all 2048 octets h)
+    go : Dec (length octets ≤ m) → readOf (take m octets) ≡ readOf octets
+    go (yes h) = ap readOf (take-all m octets h)
     go (no h) =
-        let same = bad-front (suc (length octets)) 1 0 2048 (replicate 256 0) octets (omega arith) (omega arith) in
+        let same = bad-front (suc (length octets)) 1 0 m (replicate 256 0) octets (omega arith) (omega arith) in
         let n : ¬ (formsOf octets .bad ≡ 0) = λ z. omega (arith, no-bad (suc (length octets)) 0 0 (replicate 256 0) octets (omega arith) z) in
-        names (take 2048 octets) (omega (arith, length-take 2048 octets)) (λ z. n (sym same ∙ z))
+        names (take m octets) (omega (arith, length-take m octets)) (λ z. n (sym same ∙ z))
         ∙ ap bad same
         ∙ sym (names octets (omega arith) n)
