@@ -1,0 +1,1 @@
+-- No contract can say what is printed: each line is settled by `settle_output`.
