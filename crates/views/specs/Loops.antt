@@ -1,5 +1,5 @@
 -- Laws for loops that go over a ring by the numbers of its stations. Assumes nothing.
-use mathlib.Core.Path.{_≡_, refl, ap, ap₂, _∙_, sym}
+use mathlib.Core.Path.{_≡_, refl, ap, _∙_, sym}
 use mathlib.Core.Bool.{cond}
 use mathlib.Core.List.{List, [], _∷_, _++_, map, append-nil}
 use Prim.Native.Nat.{ℕ, zero, suc, _+_, _≤_, _<_}
@@ -7,7 +7,7 @@ use native.Mathlib.Numerals.{add-one}
 use native.Mathlib.Omega.{arith}
 use borrow.Author.Tests.{eq-eqb, ne-eqb}
 use lib.ListN.{length, getD, take, drop, set, drop-of-length-le, length-map, List·getD-map}
-use lib.Seq.{drop-cons, take-suc, take-all, length-take-le, getD-at, set-at, append-snoc}
+use lib.Seq.{drop-cons, take-suc, take-all, length-take-le, set-at, append-snoc}
 use native.Mathlib.Decide.{ℕ-discrete}
 use Rattle.settling.specs.Ring.{Views}
 use Rattle.views.specs.Views.{stationsFrom, firstListed, smallestHolder}
@@ -38,16 +38,14 @@ module _ (views : List ℕ) (i : ℕ) where
 
 -- A loop that takes every element of a list to its value under f, from the front: one more element.
 pub mapped-more : (f : ℕ → ℕ) (old new : List ℕ) (i : ℕ) → i < length old → new ≡ take i (map f old) ++ drop i old
-    → set new i (f (getD new i 0)) ≡ take (i + 1) (map f old) ++ drop (i + 1) old
+    → set new i (f (getD old i 0)) ≡ take (i + 1) (map f old) ++ drop (i + 1) old
 mapped-more f old new i h e =
     let front = take i (map f old) in
     let here = getD old i 0 in
     let rest = drop (suc i) old in
     let long : i < length (map f old) = rw (length-map old f) h in
     let place : length front ≡ i = length-take-le i (map f old) (omega arith) in
-    let split : new ≡ front ++ here ∷ rest = e ∙ ap (λ (l : List ℕ). front ++ l) (drop-cons old i 0 h) in
-    let got : getD new i 0 ≡ here = ap (λ (l : List ℕ). getD l i 0) split ∙ getD-at front here rest 0 i place in
-    ap₂ (λ (l : List ℕ) (v : ℕ). set l i (f v)) split got
+    ap (λ (l : List ℕ). set l i (f here)) (e ∙ ap (λ (l : List ℕ). front ++ l) (drop-cons old i 0 h))
     ∙ set-at front here rest (f here) i place
     ∙ sym (append-snoc front (f here) rest)
     ∙ sym (rw (add-one i, take-suc (map f old) i (f 0) long, List·getD-map f old i 0))

@@ -8,7 +8,7 @@ pub use search::smallest_holder;
 pub use search::stations;
 ghost use mathlib.Core.Path.{_≡_};
 ghost use Rattle.settling.specs.Ring.{next, pass, silence};
-ghost use Rattle.views.specs.Views.{stationsOf, passedView, viewAfter, moved};
+ghost use Rattle.views.specs.Views.{stationsOf, viewsOf, passedView, viewAfter, moved};
 
 // The view of each station number, 0 where no such station is listed.
 pub struct Ring {
@@ -39,29 +39,33 @@ pub fn pass_from(ring: Ring, from: u8) -> Ring
     ensures { λ r. ⌜ r ≡ moved ring (pass from) ⌝ }
 {
     let to = next_after(ring, from);
+    let old = ring.views;
     let mut views = ring.views;
     let mut station: usize = 0;
     while station < 256 {
-        views[station] = passed_view(views[station], from, to);
+        views[station] = passed_view(old[station], from, to);
         station += 1;
     }
     Ring { views }
 }
 
-fn silent_view(ring: Ring, view: u8) -> u8
-    ensures { λ r. ⌜ r ≡ viewAfter (stationsOf ring) silence view ⌝ }
+fn silent_view(ring: Ring, station: u8) -> u8
+    ensures { λ r. ⌜ r ≡ viewAfter (stationsOf ring) silence (viewsOf ring station) ⌝ }
 {
-    if view == 0 { 0 } else { next_after(ring, view) }
+    let views = ring.views;
+    let view = views[station as usize];
+    let next = next_after(ring, view);
+    if view == 0 { view } else { next }
 }
 
 pub fn silence_in(ring: Ring) -> Ring
     ensures { λ r. ⌜ r ≡ moved ring silence ⌝ }
 {
     let mut views = ring.views;
-    let mut station: usize = 0;
-    while station < 256 {
-        views[station] = silent_view(ring, views[station]);
-        station += 1;
+    let mut number: usize = 0;
+    while number < 256 {
+        views[number] = silent_view(ring, number as u8);
+        number += 1;
     }
     Ring { views }
 }

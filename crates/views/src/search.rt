@@ -23,16 +23,16 @@ pub fn stations(ring: Ring) -> u32
     ensures { λ r. ⌜ r ≡ length (stationsOf ring) ⌝ }
 {
     let views = ring.views;
-    let mut count: u32 = 0;
+    let mut listed: u32 = 0;
     let mut number: usize = 0;
     while number < 256 {
         let view = views[number];
         number += 1;
         if view != 0 {
-            count += 1;
+            listed += 1;
         }
     }
-    count
+    listed
 }
 
 // The smallest station that holds, or 0 if none does.

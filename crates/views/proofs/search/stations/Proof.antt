@@ -10,10 +10,10 @@ use Rattle.views.proofs.search.stations.Statement.{statement}
 use Rattle.views.proofs.search.stations.Tie as tie
 
 abbrev Inv-loop : tie.InvT-loop
-Inv-loop views count₀ number₀ count number = (count + length (stationsFrom number (drop number views)) ≡ length (stationsFrom 0 views)) × (count ≤ number)
+Inv-loop views listed₀ number₀ listed number = (listed + length (stationsFrom number (drop number views)) ≡ length (stationsFrom 0 views)) × (listed ≤ number)
 
 abbrev μ-loop : tie.MeasureT-loop
-μ-loop views count₀ number₀ count number = 256 - number
+μ-loop views listed₀ number₀ listed number = 256 - number
 
 loop-holds : tie.Need-loop-holds Inv-loop μ-loop
 loop-holds c = search needs
@@ -24,8 +24,8 @@ array-read-view c = search needs
 add-number : tie.Need-add-number Inv-loop μ-loop
 add-number c = search needs
 
-add-count : tie.Need-add-count Inv-loop μ-loop
-add-count c = search needs
+add-listed : tie.Need-add-listed Inv-loop μ-loop
+add-listed c = search needs
 
 loop-less : tie.Need-loop-less Inv-loop μ-loop
 loop-less c = search needs
@@ -61,7 +61,7 @@ stations-spec =
     loop-holds
     array-read-view
     add-number
-    add-count
+    add-listed
     loop-less
     loop-again
     loop-less-2
