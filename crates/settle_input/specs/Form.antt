@@ -1,9 +1,9 @@
 -- Laws of the form of a line, for code that works on parts of it. Assumes nothing.
-use mathlib.Core.Path.{_≡_, refl, ap, ap₂, sym, _∙_}
+use mathlib.Core.Path.{_≡_, refl, ap, sym, _∙_}
 use mathlib.Core.Bool.{Bool, true, false, cond, _&&_}
 use mathlib.Core.List.{List, [], _∷_}
-use Prim.Native.Nat.{ℕ, suc, _+_, _-_, _≤_, _<_, min}
-use native.Mathlib.Nat.{le-refl, sub-zero}
+use Prim.Native.Nat.{ℕ, suc, _+_, _-_, _≤_, _<_}
+use native.Mathlib.Nat.{le-refl}
 use native.Mathlib.Omega.{arith}
 use native.Mathlib.Numerals.{add-one}
 use native.Mathlib.Decide.{decLt}
@@ -12,8 +12,11 @@ use lib.Dec.{eqb, ltb}
 use lib.ListN.{length, take, drop, length-take, length-drop}
 use lib.Seq.{take-all}
 use Rattle.text.specs.Lines.{comma, lineFeed}
-use Rattle.settle_input.specs.declared.Entry.{Entry}
-use Rattle.settle_input.specs.Input.{numberIn, before, upTo, behind, has, noEntry, entryOf, firstLine}
+use Rattle.settle_input.specs.Input.{numberIn, before, upTo, behind, noEntry, entryOf, firstLine}
+
+pub empty-list : (l : List ℕ) → length l ≤ 0 → l ≡ []
+empty-list [] h = refl
+empty-list (x ∷ l) h = absurd (omega arith)
 
 -- the part of a list from a place to its end
 pub to-end : (l : List ℕ) (start : ℕ) → take (length l - start) (drop start l) ≡ drop start l

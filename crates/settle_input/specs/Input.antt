@@ -1,5 +1,5 @@
 -- Reading the input of `settle`. Words in quotes are paper 01's, section "settle".
-use mathlib.Core.Bool.{Bool, true, false, cond, _&&_}
+use mathlib.Core.Bool.{Bool, cond, _&&_}
 use mathlib.Core.List.{List, [], _∷_}
 use Prim.Native.Nat.{ℕ, suc, _+_, _-_, _*_}
 use lib.Dec.{eqb, leb, ltb}
@@ -10,7 +10,6 @@ use Rattle.views.specs.declared.Ring.{Ring}
 use Rattle.settle_input.specs.declared.Entry.{Entry}
 use Rattle.settle_input.specs.declared.Forms.{Forms}
 use Rattle.settle_input.specs.declared.Reading.{Reading}
-use Rattle.settle_input.specs.declared.Verdict.{Verdict}
 use Rattle.settle_input.specs.declared.Verdict.the-variants as verdicts
 use Rattle.settle_input.specs.declared.Line.{Line}
 

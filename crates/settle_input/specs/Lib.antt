@@ -6,3 +6,5 @@ pub mod Form
 pub mod Lines
 pub mod Short
 pub mod Prefix
+pub mod Whole
+pub mod Numbers

@@ -1,16 +1,14 @@
 -- The lines of the input, one after the other. Assumes nothing.
-use mathlib.Core.Path.{_≡_, refl, ap, ap₂, sym, _∙_}
+use mathlib.Core.Path.{_≡_, refl, ap, _∙_}
 use mathlib.Core.Bool.{Bool, true, false, cond}
 use mathlib.Core.List.{List, [], _∷_}
 use Prim.Native.Nat.{ℕ, suc, _+_, _≤_, _<_}
 use native.Mathlib.Omega.{arith}
 use borrow.Author.Tests.{lt-ltb, le-ltb}
-use lib.Dec.{eqb, ltb}
+use lib.Dec.{eqb}
 use lib.ListN.{length, take, drop, set, length-drop}
-use lib.Seq.{drop-drop, drop-nil}
+use lib.Seq.{drop-drop}
 use Rattle.text.specs.Lines.{lineFeed}
-use Rattle.views.specs.declared.Ring.{Ring}
-use Rattle.settle_input.specs.declared.Forms.{Forms}
 use Rattle.settle_input.specs.Input.{inFront, linesOf, before, entryOf, firstLine, formsFrom, noRing}
 
 -- what stands behind the first line

@@ -1,22 +1,17 @@
 -- The answer for an input of any size is the answer for its first 2,040 octets, or more of them. Assumes nothing.
-use mathlib.Core.Path.{_≡_, refl, ap, ap₂, sym, _∙_, subst}
-use mathlib.Core.Bool.{Bool, true, false, cond}
-use mathlib.Core.Logic.{_⊎_, inl, inr}
+use mathlib.Core.Path.{_≡_, ap, sym, _∙_}
 use mathlib.Core.List.{List, [], _∷_}
 use Prim.Native.Nat.{ℕ, zero, suc, _+_, _-_, _*_, _≤_, _<_}
 use native.Mathlib.Nat.{zero-add, suc-add}
 use native.Mathlib.Decide.{decLe, decLt}
 use native.Mathlib.Omega.{arith}
 use borrow.Author.Tests.{lt-ltb, le-ltb, ne-eqb}
-use lib.Dec.{eqb, ltb}
 use lib.ListN.{length, take, drop, set, replicate, length-take, length-drop}
 use lib.Seq.{take-all, take-take, take-nil}
 use Rattle.text.specs.Lines.{lineFeed}
-use Rattle.settle_input.specs.declared.Forms.{Forms}
-use Rattle.settle_input.specs.declared.Reading.{Reading}
-use Rattle.settle_input.specs.Input.{linesOf, before, entryOf, formsFrom, formsOf, noRing, readOf, bad, firstLine}
-use Rattle.settle_input.specs.Form.{line-with-end, first-line-most}
-use Rattle.settle_input.specs.Lines.{lines-first, line-some}
+use Rattle.settle_input.specs.Input.{linesOf, before, entryOf, formsFrom, formsOf, readOf, bad, firstLine}
+use Rattle.settle_input.specs.Form.{empty-list, line-with-end}
+use Rattle.settle_input.specs.Lines.{lines-first}
 use Rattle.settle_input.specs.Short.{short-line, station-most, before-front, before-whole}
 
 -- what is left of the front of a list
@@ -141,10 +136,6 @@ module _ (number below : ℕ) (views octets : List ℕ) (some : 0 < length octet
           front (yes h) = absurd (low (omega (arith, both (front-same m octets (λ z. omega arith)))))
           front (no h) = omega arith
 
-empty : (l : List ℕ) → ¬ (0 < length l) → l ≡ []
-empty [] h = refl
-empty (x ∷ l) h = absurd (h (omega arith))
-
 -- An input with no line of bad form has at most 8 octets for each number that a station can still have.
 no-bad : (fuel number below : ℕ) (views octets : List ℕ) → length octets < fuel
     → formsFrom (suc number) below views (linesOf octets) .bad ≡ 0 → length octets ≤ 8 * (254 - below)
@@ -174,8 +165,9 @@ bad-front (suc fuel) number below m views octets h room = go (decLt 0 (length oc
         → formsFrom number below views (linesOf (take m octets)) .bad ≡ formsFrom number below views (linesOf octets) .bad
     go (yes some) rest = bad-front-step number below views octets some m room rest
     go (no none) rest =
+        let nothing = empty-list octets (omega arith) in
         ap (λ (l : List ℕ). formsFrom number below views (linesOf l) .bad)
-        (ap (take m) (empty octets none) ∙ take-nil m ∙ sym (empty octets none))
+        (ap (take m) nothing ∙ take-nil m ∙ sym nothing)
 
 -- an answer that names a line of bad form
 names : (octets : List ℕ) → 0 < length octets → ¬ (formsOf octets .bad ≡ 0) → readOf octets ≡ bad (formsOf octets .bad)

@@ -1,9 +1,8 @@
 -- A line that has an entry is short: at most 8 octets, the last of them its line feed. Assumes nothing.
-use mathlib.Core.Path.{_≡_, refl, ap, sym, _∙_, subst}
+use mathlib.Core.Path.{_≡_, refl, ap}
 use mathlib.Core.Bool.{Bool, true, false, cond, _&&_}
 use mathlib.Core.List.{List, [], _∷_}
 use Prim.Native.Nat.{ℕ, zero, suc, _+_, _-_, _*_, _≤_, _<_}
-use native.Mathlib.Nat.{zero-add, suc-add}
 use native.Mathlib.Decide.{decLe}
 use native.Mathlib.Omega.{arith}
 use borrow.Author.Tests.{leb-true, ltb-true, eqb-false}
@@ -11,12 +10,12 @@ use lib.Dec.{eqb, leb, ltb}
 use lib.ListN.{length, getD, take, drop, length-take, length-drop}
 use Rattle.laws.specs.Tests.{first, second}
 use Rattle.text.specs.Lines.{comma, lineFeed}
-use Rattle.settle_input.specs.Input.{isDigit, valueOn, numberIn, before, upTo, behind, has, entryOf, noEntry, firstLine}
+use Rattle.settle_input.specs.Input.{isDigit, valueOn, numberIn, before, upTo, behind, has, entryOf, firstLine}
 use Rattle.settle_input.specs.Digits.{digit-range}
 use Rattle.settle_input.specs.Form.{before-most}
 
 -- digits that have a value: the first is a digit, the value with it is at most 254, and the others go on from it
-value-step : (value octet : ℕ) (octets : List ℕ) → ¬ (valueOn value (octet ∷ octets) ≡ 0)
+pub value-step : (value octet : ℕ) (octets : List ℕ) → ¬ (valueOn value (octet ∷ octets) ≡ 0)
     → (isDigit octet ≡ true) × (value * 10 + (octet - 0x30) ≤ 254) × (valueOn (value * 10 + (octet - 0x30)) octets ≡ 0 → ⊥)
 value-step value octet octets n = go (isDigit octet) (leb (value * 10 + (octet - 0x30)) 254) refl refl
   where
@@ -114,7 +113,7 @@ station-most line = go (decLe (entryOf line .station) 0)
     go (no h) = omega (arith, formed line (λ z. omega arith) .station-is, number-most (upTo comma line))
 
 -- a mark is found no later from a place behind the start
-before-behind : (mark k : ℕ) (octets : List ℕ) → before mark octets ≤ k + before mark (drop k octets)
+pub before-behind : (mark k : ℕ) (octets : List ℕ) → before mark octets ≤ k + before mark (drop k octets)
 before-behind mark zero octets = omega arith
 before-behind mark (suc k) [] = omega arith
 before-behind mark (suc k) (octet ∷ octets) = go (eqb octet mark) (before-behind mark k octets)

@@ -1,12 +1,11 @@
 -- Both counts of a run while it goes on: with the steps that are left they are those of the whole run. Assumes nothing.
 use mathlib.Core.Path.{_≡_, refl, ap, sym, _∙_}
-use mathlib.Core.Bool.{Bool, true, false, _||_, cond, false≢true}
-use mathlib.Core.List.{List, [], _∷_}
+use mathlib.Core.Bool.{Bool, true, false, cond, false≢true}
+use mathlib.Core.List.{[], _∷_}
 use Prim.Native.Nat.{ℕ, zero, suc, _+_, _-_, _*_, _≤_}
 use native.Mathlib.Nat.{mul-le-mul-left}
 use native.Mathlib.Omega.{arith}
 use borrow.Author.Tests.{ne-eqb}
-use lib.Dec.{eqb}
 use lib.ListN.{length}
 use Rattle.settling.specs.Steps.{afterAll}
 use Rattle.settling.specs.Ring.{Event, pass, silence, passes, silences}
@@ -14,7 +13,6 @@ use Rattle.views.specs.Views.{stationsOf, viewsOf, differentViews, moved}
 use Rattle.views.specs.Listed.{few-stations}
 use Rattle.views.specs.declared.Ring.{Ring}
 use Rattle.settle_run.specs.Run.{eventIn, steppedBy, steppedOf, agreedIn, over, runFrom, isRing, limitOf, runOf, settledOf}
-use Rattle.settle_run.specs.declared.Kind.{Kind}
 use Rattle.settle_run.specs.declared.Kind.the-variants.{Pass, Silence}
 use Rattle.settle_run.specs.declared.Settled.{Settled}
 

@@ -6,7 +6,7 @@ use Prim.Native.Nat.{ℕ, _≤_}
 use native.Mathlib.Omega.{arith}
 use borrow.Author.Tests.{eqb-true, eqb-false}
 use lib.Dec.{eqb}
-use Rattle.settling.specs.Ring.{_∈_, Ascending, Views, Holds, Event, pass, silence, Legal}
+use Rattle.settling.specs.Ring.{_∈_, Ascending, Views, Holds, pass, silence, Legal}
 use Rattle.views.specs.Views.{smallestHolder}
 use Rattle.settle_run.specs.Run.{passBy}
 

@@ -6,7 +6,7 @@ use Prim.Native.Nat.{ℕ, zero, suc, _+_, _-_, _*_, _≤_}
 use lib.Dec.{eqb, leb}
 use lib.ListN.{length}
 use Rattle.settling.specs.Steps.{afterAll}
-use Rattle.settling.specs.Ring.{next, Views, Event, pass, silence, passes, silences}
+use Rattle.settling.specs.Ring.{next, Event, pass, silence, passes, silences}
 use Rattle.views.specs.Views.{stationsOf, viewsOf, smallestHolder, differentViews, unlistedIn, moved}
 use Rattle.views.specs.declared.Ring.{Ring}
 use Rattle.settle_run.specs.declared.Kind.{Kind}

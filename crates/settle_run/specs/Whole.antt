@@ -4,23 +4,23 @@ use mathlib.Core.Path.{_≡_, refl, ap, sym, subst, _∙_}
 use mathlib.Core.Logic.{_⊎_, inl, inr}
 use mathlib.Core.Bool.{Bool, true, false, cond}
 use mathlib.Core.List.{List, [], _∷_, append-nil}
-use Prim.Native.Nat.{ℕ, zero, suc, _+_, _-_, _*_, _≤_, _<_}
+use Prim.Native.Nat.{ℕ, zero, suc, _+_, _*_, _≤_, _<_}
 use native.Mathlib.Omega.{arith}
 use native.Mathlib.Nat.{mul-suc, suc-mul}
 use native.Mathlib.Decide.{decLt}
-use borrow.Author.Tests.{leb-true, leb-false, eqb-true, le-leb, lt-leb}
-use lib.Dec.{leb, eqb}
+use borrow.Author.Tests.{leb-true, leb-false, eqb-true}
+use lib.Dec.{eqb}
 use lib.ListN.{length}
 use Rattle.laws.specs.Tests.{first, second}
 use Rattle.settling.specs.Steps.{afterAll}
-use Rattle.settling.specs.Ring.{_∈_, Stations, Views, Within, Agreed, Event, pass, silence, move, Legal, Run, viewsAfter, passes, silences}
+use Rattle.settling.specs.Ring.{_∈_, Views, Agreed, Event, pass, silence, move, Legal, Run, viewsAfter, passes, silences}
 use Rattle.settling.specs.Runs.{Differing}
 use Rattle.settling.specs.Same.{Same, same-sym, same-run, same-differing, same-agreed, same-after}
 use Rattle.settling.specs.First.{FirstAgreement}
 use Rattle.settling.specs.Settling.{Settles, settles, square}
 use Rattle.views.specs.Views.{stationsOf, viewsOf, differentViews, unlistedIn, moved}
 use Rattle.views.specs.Listed.{ascending}
-use Rattle.views.specs.Agreement.{one-agreed, agreed-one}
+use Rattle.views.specs.Agreement.{one-agreed, agreed-one, some-view}
 use Rattle.views.specs.Proper.{Proper, proper, not-zero, moved-stations, moved-views, moved-proper}
 use Rattle.views.specs.declared.Ring.{Ring}
 use Rattle.settle_run.specs.Run.{eventIn, agreedIn, runFrom, isRing, limitOf, runOf, settledOf, Bounded}
@@ -202,3 +202,37 @@ settled-bounded ring = go (isRing ring) refl (decLt 0 (length (stationsOf ring))
           silences-sharp = b .silences-sharp;
           silences-alone = λ small. b .silences-alone (omega arith);
         }
+
+-- at the end all stations have one view
+pub settled-views : (ring : Ring) → isRing ring ≡ true → 0 < length (stationsOf ring) → settledOf ring .views ≡ 1
+settled-views ring is some =
+    let w = settled-run ring is in
+    let last = afterAll moved ring (runOf ring) in
+    let agreed : Agreed (stationsOf last) (viewsOf last) =
+    subst (λ (ns : List ℕ). Agreed ns (viewsOf last)) (sym (w .stations)) (same-agreed (same-sym (w .views)) (w .agreed)) in
+    omega (
+      arith,
+      agreed-one (stationsOf last) (viewsOf last) agreed,
+      some-view (stationsOf last) (viewsOf last) (subst (λ (ns : List ℕ). 0 < length ns) (sym (w .stations)) some),
+    )
+
+-- so many steps, each from the ring that the one before it leaves: what the program prints
+unfoldable pub stepsFrom : ℕ → Ring → List Event
+stepsFrom zero ring = []
+stepsFrom (suc steps) ring = eventIn ring ∷ stepsFrom steps (moved ring (eventIn ring))
+
+run-steps : (left : ℕ) (ring : Ring) → stepsFrom (length (runFrom left ring)) ring ≡ runFrom left ring
+unfolding runFrom stepsFrom
+run-steps zero ring = refl
+run-steps (suc left) ring = go (agreedIn ring) (run-steps left (moved ring (eventIn ring)))
+  where
+    go : (t : Bool)
+        → stepsFrom (length (runFrom left (moved ring (eventIn ring)))) (moved ring (eventIn ring)) ≡ runFrom left (moved ring (eventIn ring))
+        → stepsFrom (length (cond t [] (eventIn ring ∷ runFrom left (moved ring (eventIn ring))))) ring
+        ≡ cond t [] (eventIn ring ∷ runFrom left (moved ring (eventIn ring)))
+    go true e = refl
+    go false e = ap (λ (events : List Event). eventIn ring ∷ events) e
+
+-- as many steps as both counts say are the whole run
+pub printed-steps : (ring : Ring) → stepsFrom (settledOf ring .passes + settledOf ring .silences) ring ≡ runOf ring
+printed-steps ring = ap (λ (k : ℕ). stepsFrom k ring) (sym (steps (runOf ring))) ∙ run-steps (limitOf ring) ring

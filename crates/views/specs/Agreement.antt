@@ -1,12 +1,12 @@
 -- All views are equal where the number of different views is at most 1. Assumes nothing.
-use mathlib.Core.Path.{_≡_, refl, ap, _∙_, sym, subst}
-use mathlib.Core.Bool.{Bool, true, false, cond, _||_, false≢true, or-true}
+use mathlib.Core.Path.{_≡_, refl, ap, _∙_, sym}
+use mathlib.Core.Bool.{Bool, true, false, cond, false≢true, or-true}
 use mathlib.Core.List.{List, [], _∷_, map, List·Memᴰ·head, List·Memᴰ·tail, Memᴰ·cast}
-use Prim.Native.Nat.{ℕ, suc, _≤_}
-use native.Mathlib.Decide.{ℕ-discrete}
+use Prim.Native.Nat.{ℕ, suc, _≤_, _<_}
 use native.Mathlib.Omega.{arith}
-use borrow.Author.Tests.{eqb-true, eqb-false, eq-eqb}
+use borrow.Author.Tests.{eqb-true, eq-eqb}
 use lib.Dec.{eqb}
+use lib.ListN.{length}
 use Rattle.settling.specs.Ring.{_∈_, Views, Agreed}
 use Rattle.views.specs.Views.{member, different, differentViews}
 
@@ -77,3 +77,16 @@ agreed-one ns views f = equal-one (map views ns) same
         let (x, i, e) = of-map ns views v a in
         let (y, j, d) = of-map ns views w b in
         e ∙ f x y i j ∙ sym d
+
+-- a ring with a station has a view
+some-different : (x : ℕ) (l : List ℕ) → 1 ≤ different (x ∷ l)
+some-different x [] = omega arith
+some-different x (y ∷ l) = go (member x (y ∷ l)) (some-different y l)
+  where
+    go : (t : Bool) → 1 ≤ different (y ∷ l) → 1 ≤ cond t (different (y ∷ l)) (suc (different (y ∷ l)))
+    go true h = h
+    go false h = omega arith
+
+pub some-view : (ns : List ℕ) (views : Views) → 0 < length ns → 1 ≤ differentViews ns views
+some-view [] views h = absurd (omega arith)
+some-view (x ∷ ns) views h = some-different (views x) (map views ns)

@@ -1,18 +1,17 @@
 -- A ring whose every view is one of its stations, and what an event does to it: what `move` does. Assumes nothing.
 use mathlib.Core.Path.{_≡_, refl, ap, _∙_, sym, subst}
-use mathlib.Core.Bool.{Bool, true, false, cond, not}
-use mathlib.Core.List.{List, [], _∷_, map, Memᴰ·cast, List·Memᴰ·head, List·Memᴰ·tail}
-use Prim.Native.Nat.{ℕ, zero, suc, _+_, _≤_, _<_}
+use mathlib.Core.Bool.{Bool, true, false}
+use mathlib.Core.List.{List, [], _∷_, Memᴰ·cast, List·Memᴰ·head, List·Memᴰ·tail}
+use Prim.Native.Nat.{ℕ, suc, _<_}
 use native.Mathlib.Omega.{arith}
 use native.Mathlib.Nat.{zero-add}
 use borrow.Author.Tests.{ne-eqb, not-true, eqb-false}
-use lib.Dec.{eqb}
-use lib.ListN.{length, getD, List·getD-map}
-use Rattle.settling.specs.Ring.{_∈_, Stations, next, Views, Within, Event, pass, silence, move, Legal}
+use lib.ListN.{length, List·getD-map}
+use Rattle.settling.specs.Ring.{_∈_, Views, Within, Event, pass, silence, move, Legal}
 use Rattle.settling.specs.Same.{Same}
 use Rattle.settling.specs.Next.{laws-of}
 use Rattle.settling.specs.Moves.{within-stays}
-use Rattle.views.specs.Views.{stationsFrom, stationsOf, viewsOf, listed, firstUnlisted, unlistedIn, viewAfter, moved}
+use Rattle.views.specs.Views.{stationsOf, viewsOf, listed, firstUnlisted, unlistedIn, viewAfter, moved}
 use Rattle.views.specs.Listed.{station-listed, listed-station, stations-kept, ascending}
 use Rattle.views.specs.declared.Ring.{Ring}
 

@@ -1,9 +1,8 @@
 -- The ring that `settle` works on, and what is looked up and moved in it. Words in quotes are paper 01's.
-use mathlib.Core.Path.{_≡_}
-use mathlib.Core.Bool.{Bool, true, false, cond, not, _||_}
+use mathlib.Core.Bool.{Bool, false, cond, not, _||_}
 use mathlib.Core.List.{List, [], _∷_, map}
 use Prim.Native.Nat.{ℕ, suc, min}
-use lib.Dec.{eqb, ltb}
+use lib.Dec.{eqb}
 use lib.ListN.{getD}
 use Rattle.settling.specs.Ring.{Views, Event, move}
 use Rattle.views.specs.declared.Ring.{Ring}

@@ -1,12 +1,12 @@
 -- `settle_input::read_forms` meets its contract.
 use mathlib.Core.Path.{_≡_, refl, ap, sym, _∙_}
 use mathlib.Core.List.{List}
-use Prim.Native.Nat.{ℕ, _+_, _-_, _<_, _≤_}
+use Prim.Native.Nat.{ℕ, _+_, _-_, _≤_}
 use native.Mathlib.Numerals.{add-one}
 use native.Mathlib.Omega.{arith}
 use lib.ListN.{length, drop, replicate, length-drop, drop-of-length-le}
 use Rattle.settle_input.specs.declared.Line.{Line}
-use Rattle.settle_input.specs.Input.{linesOf, firstLine, formsFrom, formsOf}
+use Rattle.settle_input.specs.Input.{linesOf, formsFrom}
 use Rattle.settle_input.specs.Lines.{line-some, forms-bad, forms-more}
 use borrow.Author.Needs.{needs}
 use Rattle.settle_input.proofs.read_forms.Statement.{statement}

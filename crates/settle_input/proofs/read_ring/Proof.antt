@@ -1,5 +1,5 @@
 -- `settle_input::read_ring` meets its contract.
-use mathlib.Core.Path.{_≡_, ap, sym, _∙_}
+use mathlib.Core.Path.{_∙_}
 use borrow.Author.Tests.{eq-eqb, ne-eqb}
 use borrow.Author.Needs.{needs}
 use Rattle.settle_input.proofs.read_ring.Statement.{statement}

@@ -1,6 +1,6 @@
 -- `settle_output::put_step` meets its contract.
 use mathlib.Core.Path.{ap, ap₂, _∙_}
-use mathlib.Core.List.{List, [], _∷_}
+use mathlib.Core.List.{[], _∷_}
 use Prim.Native.Nat.{ℕ}
 use Rattle.text.specs.Lines.{lineOf}
 use Rattle.settle_output.specs.Output.{writtenTo, lengthIn}

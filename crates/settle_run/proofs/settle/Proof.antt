@@ -1,12 +1,10 @@
 -- `settle_run::settle` meets its contract.
 use mathlib.Core.Path.{_≡_, sym, ap, _∙_, subst}
-use Prim.Native.Nat.{ℕ, _+_, _-_}
+use Prim.Native.Nat.{_+_, _-_}
 use native.Mathlib.Omega.{arith}
 use borrow.Author.Tests.{not-true, not-false}
 use lib.ListN.{length}
-use Rattle.views.specs.declared.Ring.{Ring}
 use Rattle.views.specs.Views.{stationsOf}
-use Rattle.settle_run.specs.declared.Settled.{Settled}
 use Rattle.settle_run.specs.declared.Stepped.{Stepped}
 use Rattle.settle_run.specs.Run.{settledOf, Bounded}
 use Rattle.settle_run.specs.Whole.{settled-bounded}

@@ -1,5 +1,5 @@
 -- `settle_run::step` meets its contract.
-use mathlib.Core.Path.{sym, _∙_, ap}
+use mathlib.Core.Path.{sym, _∙_}
 use borrow.Author.Tests.{eq-eqb, ne-eqb}
 use borrow.Author.Needs.{needs}
 use Rattle.settle_run.proofs.step.Statement.{statement}

@@ -1,5 +1,5 @@
 -- `views::next_after` meets its contract.
-use mathlib.Core.Path.{_∙_, sym}
+use mathlib.Core.Path.{_∙_}
 use borrow.Author.Needs.{needs}
 use Rattle.views.specs.Found.{next-found}
 use Rattle.views.proofs.next_after.Statement.{statement}

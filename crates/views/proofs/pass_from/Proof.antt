@@ -3,8 +3,7 @@ use mathlib.Core.Path.{_≡_, refl, ap, _∙_}
 use mathlib.Core.List.{List, _++_, map}
 use Prim.Native.Nat.{ℕ, _-_}
 use native.Mathlib.Omega.{arith}
-use lib.ListN.{length, getD, take, drop, set}
-use Rattle.views.specs.declared.Ring.{Ring}
+use lib.ListN.{length, take, drop, set}
 use Rattle.views.specs.Views.{passedView}
 use Rattle.views.specs.Loops.{mapped-more, mapped-all}
 use borrow.Author.Needs.{needs}

@@ -1,6 +1,4 @@
 -- `settle_input::fields::line_length` meets its contract.
-use mathlib.Core.Path.{_≡_, ap, sym, _∙_}
-use Prim.Native.Nat.{ℕ, _+_}
 use Rattle.settle_input.specs.Form.{line-with-end, line-without-end}
 use borrow.Author.Needs.{needs}
 use Rattle.settle_input.proofs.fields.line_length.Statement.{statement}

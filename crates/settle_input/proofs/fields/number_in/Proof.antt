@@ -1,8 +1,5 @@
 -- `settle_input::fields::number_in` meets its contract.
-use mathlib.Core.Path.{_≡_, ap, sym, _∙_}
-use mathlib.Core.List.{List}
-use Prim.Native.Nat.{ℕ}
-use native.Mathlib.Omega.{arith}
+use mathlib.Core.Path.{sym}
 use borrow.Author.Tests.{eq-eqb, ne-eqb}
 use Rattle.settle_input.specs.Digits.{empty-number, first-octet}
 use borrow.Author.Needs.{needs}

@@ -1,17 +1,12 @@
 -- `views::search::different_views` meets its contract.
-use mathlib.Core.Path.{_≡_, refl, ap, _∙_, sym}
-use mathlib.Core.Bool.{Bool, true, false, not, _&&_}
-use mathlib.Core.List.{List, [], _∷_, map}
-use Prim.Native.Nat.{ℕ, suc, _+_, _-_, _≤_, _<_}
-use native.Mathlib.Numerals.{add-one}
+use mathlib.Core.Path.{_≡_, ap, _∙_}
+use mathlib.Core.List.{map}
+use Prim.Native.Nat.{ℕ, _-_}
 use native.Mathlib.Omega.{arith}
-use borrow.Author.Tests.{eqb-false, not-true}
-use lib.Dec.{eqb}
-use lib.ListN.{length, getD, drop, set, getD-replicate, length-set}
+use lib.ListN.{getD, drop}
 use mir.Val.{Fits}
 use mir.Syntax.{w8}
-use Rattle.laws.specs.Tests.{first, second}
-use Rattle.views.specs.Views.{stationsFrom, member, different}
+use Rattle.views.specs.Views.{stationsFrom, different}
 use Rattle.views.specs.Different.{Counted, counted-none, counted-same, counted-more}
 use borrow.Author.Needs.{needs}
 use Rattle.views.proofs.search.different_views.Statement.{statement}
