@@ -11,10 +11,6 @@ use lib.Seq.{drop-drop}
 use Rattle.text.specs.Lines.{lineFeed}
 use Rattle.settle_input.specs.Input.{inFront, linesOf, before, entryOf, firstLine, formsFrom, noRing}
 
--- what stands behind the first line
-pub afterLine : List ℕ → List ℕ
-afterLine octets = drop (length (firstLine octets)) octets
-
 -- some octets are their first line, and the lines of what stands behind it
 pub lines-first : (octets : List ℕ) → 0 < length octets
     → linesOf octets ≡ firstLine octets ∷ linesOf (drop (length (firstLine octets)) octets)
@@ -45,9 +41,6 @@ line-some (octet ∷ octets) h = omega arith
 
 -- reading the forms of the lines from a place of the input on
 module _ (number below : ℕ) (views input : List ℕ) (at : ℕ) (h : at < length input) where
-  here : List ℕ
-  here = firstLine (drop at input)
-
   split : linesOf (drop at input) ≡ firstLine (drop at input) ∷ linesOf (drop (at + length (firstLine (drop at input))) input)
   split =
       lines-first (drop at input) (omega (arith, length-drop at input))

@@ -31,7 +31,7 @@ fn value_of(octets: &[u8]) -> u8
 }
 
 // The number that the octets are, or 0 if they are no number of 1 to 254 without leading zeros.
-pub fn number_in(octets: &[u8]) -> u8
+fn number_in(octets: &[u8]) -> u8
     ensures { λ r. ⌜ r ≡ numberIn (now (octets .entry)) ⌝ }
 {
     if octets.len() == 0 {

@@ -1,9 +1,8 @@
 // Reading the input of `settle`: the ring, or the number of the first bad line.
 mod fields;
 
-pub use fields::entry_of;
+use fields::entry_of;
 use fields::line_length;
-pub use fields::number_in;
 use views::Ring;
 ghost use mathlib.Core.Path.{_≡_};
 ghost use Prim.Native.Nat.{_<_};

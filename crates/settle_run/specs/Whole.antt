@@ -52,9 +52,6 @@ some-in (y ∷ ns) x m = omega arith
 -- one event, and what is made from the ring after it
 module _ {left : ℕ} {ring : Ring} (event : Event) {events : List Event} (p : Proper ring) (n : ¬ Agreed (stationsOf ring) (viewsOf ring))
     (can : Legal (stationsOf ring) (viewsOf ring) event) (rest : Made left (moved ring event) events) where
-  ns : List ℕ
-  ns = stationsOf ring
-
   some : 0 < length (stationsOf ring)
   some = some-station (stationsOf ring) (viewsOf ring) n
 
