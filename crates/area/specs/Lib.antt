@@ -1,8 +1,6 @@
 -- The definitions of this crate, and what is proved of them.
 pub mod Areas
 pub mod Overlap
-pub mod Blocks
 -- Theorems.
 pub mod Words
 pub mod Within
-pub mod Cut

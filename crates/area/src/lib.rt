@@ -1,9 +1,4 @@
-// The two areas of the common memory: a station's parts of them, and the blocks that a turn's data are cut into.
-mod turn;
-
-pub use turn::block_length;
-pub use turn::blocks;
-pub use turn::turn_octets;
+// The two areas of the common memory, and a station's parts of them.
 ghost use mathlib.Core.Path.{_≡_};
 ghost use Rattle.area.specs.Areas.{extentOf, placeOf, inArea, inRange, spanOf};
 ghost use Rattle.area.specs.Overlap.{partsOverlap, areasOverlap};

@@ -23,6 +23,15 @@ codeOf number =
     (cond (eqb number 65002) (Known Request)
     (cond (eqb number 65012) (Known Trigger) Unknown)))
 
+abbrev pub isKnown : Coded → Bool
+isKnown (Known code) = true
+isKnown Unknown = false
+
+-- the code, where there is one. (Of an unknown code nothing asks: it stands for a trigger then.)
+abbrev pub codeFrom : Coded → Code
+codeFrom (Known code) = code
+codeFrom Unknown = Trigger
+
 -- only 65000 passes the token
 abbrev pub isToken : Code → Bool
 isToken Token = true

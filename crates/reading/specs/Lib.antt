@@ -1,5 +1,2 @@
--- The definitions of this crate, and what is proved of them.
+-- The definitions of this crate.
 pub mod Reading
--- Theorems.
-pub mod Accepted
-pub mod Shown

@@ -5,14 +5,12 @@ use mathlib.Core.List.{List}
 use lib.Dec.{leb, eqb}
 use lib.ListN.{length, drop}
 use Rattle.area.specs.Areas.{inRange}
-use Rattle.area.specs.Blocks.{blocksOf, lengthOf}
-use Rattle.frame.specs.Codes.{codeOf, isToken, isCyclic, carriesAreas}
+use Rattle.block.specs.Blocks.{blocksOf, lengthOf}
+use Rattle.frame.specs.Codes.{codeOf, isKnown, codeFrom, isToken, isCyclic, carriesAreas}
 use Rattle.frame.specs.Octets.{octetAt, wordAt, longAt}
 use Rattle.frame.specs.Positions.{TFL, SNA, DNA, TCD, C-AD1, C-SZ1, C-AD2, C-SZ2, CBN, TBN, BSIZE, TW}
 use Rattle.frame.specs.declared.Fields.{Fields}
 use Rattle.frame.specs.declared.Code.{Code}
-use Rattle.frame.specs.declared.Coded.{Coded}
-use Rattle.frame.specs.declared.Coded.the-variants.{Known, Unknown}
 use Rattle.reading.specs.declared.Read.{Read}
 use Rattle.reading.specs.declared.Read.the-variants.{Frame, Refused}
 use Rattle.frame.specs.declared.Refusal.{Refusal}
@@ -35,6 +33,18 @@ whole s = leb 64 (length s) && leb (length s) 1120
 -- 2: "not the frame type mark of clause 10.1", which is the octets "FACN"
 abbrev pub marked : List ℕ → Bool
 marked s = eqb (octetAt s 0) 70 && (eqb (octetAt s 1) 65 && (eqb (octetAt s 2) 67 && eqb (octetAt s 3) 78))
+
+-- 3: "TFL is not the octets given"
+abbrev pub long : List ℕ → Bool
+long s = eqb (longAt s TFL) (length s)
+
+-- 4: "TCD not one of the four"
+abbrev pub coded : List ℕ → Bool
+coded s = isKnown (codeOf (wordAt s TCD))
+
+-- the code of a frame that passed 4
+abbrev pub codeIn : List ℕ → Code
+codeIn s = codeFrom (codeOf (wordAt s TCD))
 
 -- the fields as they stand in the octets
 unfoldable pub fieldsOf : Code → List ℕ → Fields
@@ -74,18 +84,15 @@ blocked given fields =
     && (eqb (fields .size) (lengthOf (fields .areas) (fields .block))
     && (leb 64 (given - fields .size) && leb (given - fields .size) 96)))
 
--- 4: "TCD not one of the four", then 5
-abbrev pub readCodeOf : Coded → List ℕ → Read
-readCodeOf Unknown s = Refused refusals.Code
-readCodeOf (Known code) s = need (addressed (fieldsOf code s)) refusals.Address (Frame (fieldsOf code s))
-
--- refusals 1 to 5, in this order; 3: "TFL is not the octets given"
+-- refusals 1 to 5, in this order
 abbrev pub readHeaderOf : List ℕ → Read
 readHeaderOf s =
     need (whole s) refusals.Cut
     (need (marked s) refusals.Mark
-    (need (eqb (longAt s TFL) (length s)) refusals.Length
-    (readCodeOf (codeOf (wordAt s TCD)) s)))
+    (need (long s) refusals.Length
+    (need (coded s) refusals.Code
+    (need (addressed (fieldsOf (codeIn s) s)) refusals.Address
+    (Frame (fieldsOf (codeIn s) s))))))
 
 -- refusals 7 and 8, of a frame of so many octets given
 abbrev pub readBodyOf : ℕ → Fields → Read

@@ -14,7 +14,7 @@ use units::Milliseconds;
 ghost use mathlib.Core.Path.{_≡_};
 ghost use Prim.Native.Nat.{_≤_, _-_};
 ghost use lib.ListN.{length};
-ghost use Rattle.reading.specs.Reading.{marked, fieldsOf, isStation, addressed, ranged, blocked, readCodeOf, readHeaderOf, readBodyOf, readOf, dataSize, dataOf};
+ghost use Rattle.reading.specs.Reading.{marked, fieldsOf, isStation, addressed, ranged, blocked, readHeaderOf, readBodyOf, readOf, dataSize, dataOf};
 
 pub enum Read {
     Frame(Fields),
@@ -87,29 +87,11 @@ fn is_blocked(given: usize, fields: Fields) -> bool
     ensures { λ r. ⌜ r ≡ blocked given fields ⌝ }
 {
     let areas = fields.areas;
-    let total = fields.blocks as usize == area::blocks(areas);
+    let total = fields.blocks as usize == block::blocks(areas);
     let number = (1 <= fields.block) & (fields.block <= fields.blocks);
-    let size = fields.size as usize == area::block_length(areas, fields.block);
+    let size = fields.size as usize == block::block_length(areas, fields.block);
     let header = header_part(given, fields.size as usize);
     total & (number & (size & ((64 <= header) & (header <= 96))))
-}
-
-// Refusals 4 and 5.
-fn read_coded(coded: Coded, s: &[u8]) -> Read
-    requires { ⌜ 64 ≤ length (now s) ⌝ }
-    ensures { λ r. ⌜ r ≡ readCodeOf coded (now (s .entry)) ⌝ }
-{
-    match coded {
-        Coded::Unknown => Read::Refused(Refusal::Code),
-        Coded::Known(code) => {
-            let fields = fields_of(code, s);
-            if is_addressed(fields) {
-                Read::Frame(fields)
-            } else {
-                Read::Refused(Refusal::Address)
-            }
-        }
-    }
 }
 
 // Refusals 1 to 5. What it answers is not yet a frame: refusals 7 and 8 are asked by read_body.
@@ -129,7 +111,16 @@ pub fn read_header(s: &[u8]) -> Read
     if long_at(s, position::TFL) as usize != given {
         return Read::Refused(Refusal::Length);
     }
-    read_coded(frame::code_of(word_at(s, position::TCD)), s)
+    let coded = frame::code_of(word_at(s, position::TCD));
+    let Coded::Known(code) = coded else {
+        return Read::Refused(Refusal::Code);
+    };
+    let fields = fields_of(code, s);
+    if is_addressed(fields) {
+        Read::Frame(fields)
+    } else {
+        Read::Refused(Refusal::Address)
+    }
 }
 
 // Refusals 7 and 8, of a header that was read from so many octets.

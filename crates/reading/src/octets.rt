@@ -1,20 +1,20 @@
 // Numbers of one, two and four octets, the most significant first (clause 8.3).
 ghost use mathlib.Core.Path.{_≡_};
-ghost use Prim.Native.Nat.{_+_, _<_};
+ghost use Prim.Native.Nat.{_+_, _*_, _<_};
 ghost use lib.ListN.{length};
 ghost use Rattle.frame.specs.Octets.{wordAt, longAt};
 
-fn wide(octet: u8) -> u16
-    ensures { λ r. ⌜ r ≡ octet ⌝ }
+fn join(high: u8, low: u8) -> u16
+    ensures { λ r. ⌜ r ≡ high * 256 + low ⌝ }
 {
-    octet as u16
+    high as u16 * 256 + low as u16
 }
 
 pub(crate) fn word_at(s: &[u8], at: usize) -> u16
     requires { ⌜ at + 1 < length (now s) ⌝ }
     ensures { λ r. ⌜ r ≡ wordAt (now (s .entry)) at ⌝ }
 {
-    wide(s[at]) * 256 + wide(s[at + 1])
+    join(s[at], s[at + 1])
 }
 
 pub(crate) fn long_at(s: &[u8], at: usize) -> u32

@@ -6,7 +6,15 @@ use lib.ListN.{length, length-append, take}
 use lib.Seq.{length-take-le}
 use Rattle.frame.specs.declared.Fields.{Fields}
 use Rattle.reading.specs.Reading.{dataSize}
-use Rattle.writing.specs.Writing.{fixed, headerOf, frameOf, wholeLength}
+use Rattle.writing.specs.Writing.{fixed, frontOf, backOf, headerOf, frameOf, wholeLength}
+
+pub length-front : (fields : Fields) → length (frontOf fields) ≡ 16
+unfolding frontOf
+length-front fields = refl
+
+pub length-back : (fields : Fields) → length (backOf fields) ≡ 24
+unfolding backOf
+length-back fields = refl
 
 pub length-header : (fields : Fields) → length (headerOf fields) ≡ 64
 unfolding headerOf

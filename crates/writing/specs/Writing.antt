@@ -4,7 +4,7 @@ use Prim.Native.Nat.{ℕ, _+_, _/_, _%_}
 use mathlib.Core.Bool.{Bool, true, false, cond, _&&_}
 use mathlib.Core.List.{List, [], _∷_, _++_}
 use lib.Dec.{leb}
-use lib.ListN.{length, take, drop}
+use lib.ListN.{length, take, drop, replicate}
 use Rattle.area.specs.declared.Areas.{Areas}
 use Rattle.units.specs.declared.Milliseconds.{Milliseconds}
 use Rattle.frame.specs.Codes.{codeNumber, isCyclic, carriesAreas}
@@ -52,7 +52,7 @@ fixedFor code fields = record {
 abbrev pub fixed : Fields → Fields
 fixed fields = fixedFor (fields .code) fields
 
--- four octets of the header: as they are, one number, a number in the last, two numbers
+-- four octets of the header: as they are; one number of four octets; two numbers of two
 abbrev pub four : ℕ → ℕ → ℕ → ℕ → List ℕ
 four a b c d = a ∷ b ∷ c ∷ d ∷ []
 
@@ -62,25 +62,31 @@ long n = four (n / 16777216) (n / 65536 % 256) (n / 256 % 256) (n % 256)
 abbrev pub words : ℕ → ℕ → List ℕ
 words a b = four (a / 256) (a % 256) (b / 256) (b % 256)
 
--- clause 10.1, Table 20: the 64 octets of the header in rows of four, for fields that have their fixed values
-unfoldable pub headerOf : Fields → List ℕ
-headerOf fields =
+-- clause 10.1, Table 20: the header in rows of four octets, for fields that have their fixed values
+unfoldable pub frontOf : Fields → List ℕ
+frontOf fields =
     four 0x46 0x41 0x43 0x4e  -- H_TYPE, "FACN"
     ++ long (fields .length)  -- TFL
     ++ four 0 0 0 (fields .source)  -- SNA
     ++ four 0 0 0 (fields .destination)  -- DNA
-    ++ four 0 0 0 0  -- V_SEQ
-    ++ four 0 0 0 0  -- SEQ
-    ++ four 0 0 0 0  -- M_CTL: BCT, PPT, RPL
-    ++ four 0 0 0 0  -- ULS, M_SZ
-    ++ four 0 0 0 0  -- M_ADD
-    ++ four 0 0 0 0  -- MFT, M_RLT, two octets unused
-    ++ words (codeNumber (fields .code)) 0  -- TCD, VER fixed to 16#0000
+
+-- V_SEQ, SEQ, M_CTL with BCT, PPT and RPL, ULS, M_SZ, M_ADD, MFT, M_RLT and two octets unused: no rule sets them and clause 10.1 fixes none
+abbrev pub between : List ℕ
+between = replicate 24 0
+
+unfoldable pub backOf : Fields → List ℕ
+backOf fields =
+    words (codeNumber (fields .code)) 0  -- TCD, VER fixed to 16#0000
     ++ words (fields .areas .one .address) (fields .areas .one .size)  -- C_AD1, C_SZ1
     ++ words (fields .areas .two .address) (fields .areas .two .size)  -- C_AD2, C_SZ2
     ++ four 0 0 0x80 0  -- MODE, P_TYPE fixed to 16#80, PRI fixed to 16#00
     ++ four (fields .block) (fields .blocks) (fields .size / 256) (fields .size % 256)  -- CBN, TBN, BSIZE
     ++ four 0 (fields .watch .0) 0 0  -- LKS, TW, RCT
+
+-- the 64 octets of the header
+unfoldable pub headerOf : Fields → List ℕ
+unfolding frontOf backOf
+headerOf fields = frontOf fields ++ between ++ backOf fields
 
 -- the frame: the header, then the first octets of the data lent, as many as the frame carries
 abbrev pub frameOf : Fields → List ℕ → List ℕ

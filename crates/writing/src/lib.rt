@@ -6,7 +6,10 @@ use frame::Fields;
 use frame::Refusal;
 use units::Milliseconds;
 ghost use mathlib.Core.Path.{_≡_};
-ghost use Rattle.writing.specs.Writing.{wholeLength, fixedFor, fixed, headerOf, writtenOf, outputOf};
+ghost use Prim.Native.Nat.{_≤_};
+ghost use lib.ListN.{length};
+ghost use Rattle.copying.specs.Pasted.{pasted};
+ghost use Rattle.writing.specs.Writing.{wholeLength, fixedFor, fixed, frontOf, backOf, headerOf, writtenOf, outputOf};
 ghost use Rattle.frame.specs.declared.Code.the-variants.{Token, Request, Trigger};
 
 // What writing answers.
@@ -73,16 +76,11 @@ fn fixed_fields(fields: Fields) -> Fields
     }
 }
 
-// One literal in the order of clause 10.1, Table 20, in rows of four octets.
-fn header(fields: Fields) -> [u8; 64]
-    ensures { λ r. ⌜ r ≡ headerOf fields ⌝ }
+// The first sixteen octets of the header: H_TYPE, TFL, SNA, DNA.
+fn header_front(fields: Fields) -> [u8; 16]
+    ensures { λ r. ⌜ r ≡ frontOf fields ⌝ }
 {
-    let code = fields.code;
-    let tcd = frame::number_of_code(code);
     let tfl = fields.length;
-    let one = fields.areas.one;
-    let two = fields.areas.two;
-    let size = fields.size;
     [
         b'F',
         b'A',
@@ -100,30 +98,19 @@ fn header(fields: Fields) -> [u8; 64]
         0,
         0,
         fields.destination,
-        0,
-        0,
-        0,
-        0,
-        0,
-        0,
-        0,
-        0,
-        0,
-        0,
-        0,
-        0,
-        0,
-        0,
-        0,
-        0,
-        0,
-        0,
-        0,
-        0,
-        0,
-        0,
-        0,
-        0,
+    ]
+}
+
+// The last twenty-four octets of the header: TCD, VER, the areas, MODE, P_TYPE, PRI, CBN, TBN, BSIZE, LKS, TW, RCT.
+fn header_back(fields: Fields) -> [u8; 24]
+    ensures { λ r. ⌜ r ≡ backOf fields ⌝ }
+{
+    let code = fields.code;
+    let tcd = frame::number_of_code(code);
+    let one = fields.areas.one;
+    let two = fields.areas.two;
+    let size = fields.size;
+    [
         (tcd / 256) as u8,
         (tcd % 256) as u8,
         0,
@@ -151,6 +138,18 @@ fn header(fields: Fields) -> [u8; 64]
     ]
 }
 
+fn write_header(fields: Fields, output: &mut [u8])
+    requires { ⌜ 64 ≤ length (now output) ⌝ }
+    ensures { λ _. ⌜ now (output .exit) ≡ pasted (now (output .entry)) 0 (headerOf fields) ⌝ }
+{
+    let front = header_front(fields);
+    let between = [0u8; 24];
+    let back = header_back(fields);
+    copying::copy_into(&front, output, 0);
+    copying::copy_into(&between, output, 16);
+    copying::copy_into(&back, output, 40);
+}
+
 pub fn write_frame(fields: Fields, block: &[u8], output: &mut [u8]) -> Written
     ensures { λ r. ⌜ r ≡ writtenOf fields (now (block .entry)) (now (output .entry)) ⌝ }
     ensures { λ _. ⌜ now (output .exit) ≡ outputOf fields (now (block .entry)) (now (output .entry)) ⌝ }
@@ -163,8 +162,7 @@ pub fn write_frame(fields: Fields, block: &[u8], output: &mut [u8]) -> Written
     if output.len() < whole {
         return Written::Refused(Refusal::Buffer);
     }
-    let front = header(fixed_fields(fields));
-    copying::copy_into(&front, output, 0);
+    write_header(fixed_fields(fields), output);
     copying::copy_into(&block[0..size], output, 64);
     Written::Octets(whole)
 }

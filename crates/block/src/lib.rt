@@ -1,0 +1,45 @@
+// A turn's data and the blocks that they are cut into.
+use area::Areas;
+ghost use mathlib.Core.Path.{_≡_};
+ghost use Prim.Native.Nat.{_-_, min};
+ghost use Rattle.block.specs.Blocks.{octetsOf, blocksOf, lengthOf};
+
+fn least(a: usize, b: usize) -> usize
+    ensures { λ r. ⌜ r ≡ min a b ⌝ }
+{
+    if a < b { a } else { b }
+}
+
+// The difference, or 0 where b is the larger.
+fn less(a: usize, b: usize) -> usize
+    ensures { λ r. ⌜ r ≡ a - b ⌝ }
+{
+    if a < b { 0 } else { a - b }
+}
+
+pub fn turn_octets(areas: Areas) -> usize
+    ensures { λ r. ⌜ r ≡ octetsOf areas ⌝ }
+{
+    let one = areas.one;
+    let two = areas.two;
+    2 * (one.size as usize + two.size as usize)
+}
+
+pub fn blocks(areas: Areas) -> usize
+    ensures { λ r. ⌜ r ≡ blocksOf areas ⌝ }
+{
+    let octets = turn_octets(areas);
+    if octets == 0 {
+        1
+    } else {
+        (octets + 1023) / 1024
+    }
+}
+
+pub fn block_length(areas: Areas, block: u8) -> usize
+    ensures { λ r. ⌜ r ≡ lengthOf areas block ⌝ }
+{
+    let number = block as usize;
+    let end = least(1024 * number, turn_octets(areas));
+    less(end, 1024 * less(number, 1))
+}

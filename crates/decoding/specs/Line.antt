@@ -1,0 +1,26 @@
+-- The answer to a whole line.
+use Prim.Native.Nat.{ℕ}
+use mathlib.Core.List.{List, [], _∷_}
+use Rattle.reading.specs.Reading.{readOf}
+use Rattle.decoding.specs.Gathering.{pushed, bufferAfter}
+use Rattle.decoding.specs.Hexadecimal.{Spelled, octets, neither, spelled}
+use Rattle.decoding.specs.declared.Answer.{Answer}
+use Rattle.decoding.specs.declared.Answer.the-variants.{Heard, Bad}
+use Rattle.decoding.specs.declared.Gathered.{Gathered}
+
+abbrev pub answerFor : Spelled → Answer
+answerFor (octets frame) = Heard (readOf frame)
+answerFor neither = Bad
+
+-- a line, without its line feed: the frame that it spells is read; "`bad` for a line that is not an even number of hexadecimal digits"
+abbrev pub lineAnswer : List ℕ → Answer
+lineAnswer line = answerFor (spelled line)
+
+-- all octets of a line, one by one, into a buffer of so many octets
+abbrev pub pushedAll : ℕ → Gathered → List ℕ → Gathered
+pushedAll room gathered [] = gathered
+pushedAll room gathered (octet ∷ line) = pushedAll room (pushed room gathered octet) line
+
+abbrev pub bufferAll : ℕ → Gathered → List ℕ → List ℕ → List ℕ
+bufferAll room gathered buffer [] = buffer
+bufferAll room gathered buffer (octet ∷ line) = bufferAll room (pushed room gathered octet) (bufferAfter gathered buffer octet) line
