@@ -1,1 +1,0 @@
--- A program: there is nothing to define here.
