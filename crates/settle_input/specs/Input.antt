@@ -1,11 +1,11 @@
 -- Reading the input of `settle`. Words in quotes are paper 01's, section "settle".
 use mathlib.Core.Bool.{Bool, cond, _&&_}
-use mathlib.Core.List.{List, [], _∷_}
+use mathlib.Core.List.{List, [], _∷_, map}
 use Prim.Native.Nat.{ℕ, suc, _+_, _-_, _*_}
 use lib.Dec.{eqb, leb, ltb}
 use lib.ListN.{length, getD, take, drop, set, replicate}
 use Rattle.text.specs.Lines.{comma, lineFeed}
-use Rattle.views.specs.Views.{unlistedIn}
+use Rattle.views.specs.Views.{member}
 use Rattle.views.specs.declared.Ring.{Ring}
 use Rattle.settle_input.specs.declared.Entry.{Entry}
 use Rattle.settle_input.specs.declared.Forms.{Forms}
@@ -68,6 +68,12 @@ entryOf line =
     noEntry)
     noEntry
 
+abbrev pub stationIn : List ℕ → ℕ
+stationIn line = entryOf line .station
+
+abbrev pub viewIn : List ℕ → ℕ
+viewIn line = entryOf line .view
+
 -- a ring with no station
 abbrev pub noRing : Ring
 noRing = record { views = replicate 256 0 }
@@ -77,12 +83,21 @@ noRing = record { views = replicate 256 0 }
 unfoldable pub formsFrom : ℕ → ℕ → List ℕ → List (List ℕ) → Forms
 formsFrom number below views [] = record { bad = 0; ring = record { views = views } }
 formsFrom number below views (line ∷ lines) =
-    cond (ltb below (entryOf line .station))
-    (formsFrom (suc number) (entryOf line .station) (set views (entryOf line .station) (entryOf line .view)) lines)
+    cond (ltb below (stationIn line))
+    (formsFrom (suc number) (stationIn line) (set views (stationIn line) (viewIn line)) lines)
     (record { bad = number; ring = noRing })
 
 abbrev pub formsOf : List ℕ → Forms
 formsOf octets = formsFrom 1 0 (replicate 256 0) (linesOf octets)
+
+-- "then that each view is listed": the number of the first line, counted on from `number`, whose view is none of the stations, or 0 if
+-- there is none
+abbrev pub unlistedFrom : List ℕ → ℕ → List (List ℕ) → ℕ
+unlistedFrom stations number [] = 0
+unlistedFrom stations number (line ∷ lines) = cond (member (viewIn line) stations) (unlistedFrom stations (suc number) lines) number
+
+abbrev pub unlistedOf : List ℕ → ℕ
+unlistedOf octets = unlistedFrom (map stationIn (linesOf octets)) 1 (linesOf octets)
 
 abbrev pub bad : ℕ → Reading
 bad number = record { verdict = verdicts.Bad number; ring = noRing }
@@ -92,9 +107,9 @@ abbrev pub readOf : List ℕ → Reading
 readOf octets =
     cond (eqb (length octets) 0) (bad 0)
     (cond (eqb (formsOf octets .bad) 0)
-    (cond (eqb (unlistedIn (formsOf octets .ring)) 0)
+    (cond (eqb (unlistedOf octets) 0)
     (record { verdict = verdicts.Ring; ring = formsOf octets .ring })
-    (bad (unlistedIn (formsOf octets .ring))))
+    (bad (unlistedOf octets)))
     (bad (formsOf octets .bad)))
 
 -- the first line of octets, with its line feed

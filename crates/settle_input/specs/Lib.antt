@@ -6,5 +6,6 @@ pub mod Form
 pub mod Lines
 pub mod Short
 pub mod Prefix
+pub mod Filled
 pub mod Whole
 pub mod Numbers

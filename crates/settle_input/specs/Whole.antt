@@ -1,104 +1,19 @@
 -- The ring that is read has the stations of the lines, in their order, each with the view of its line; every view is one of them.
 -- Assumes nothing.
-use mathlib.Core.Path.{_≡_, refl, ap, ap₂, sym, _∙_, subst}
-use mathlib.Core.Bool.{Bool, true, false, cond}
-use mathlib.Core.List.{List, [], _∷_, _++_, map, append-nil, append-assoc}
-use Prim.Native.Nat.{ℕ, zero, suc, _+_, _≤_, _<_}
-use native.Mathlib.Nat.{add-zero, zero-add}
-use native.Mathlib.Decide.{decLt}
+use mathlib.Core.Path.{_≡_, refl, ap, sym, _∙_, subst}
+use mathlib.Core.Bool.{Bool, true, false}
+use mathlib.Core.List.{List, map}
+use Prim.Native.Nat.{ℕ, _<_}
 use native.Mathlib.Omega.{arith}
-use borrow.Author.Tests.{eq-eqb, ne-eqb, lt-ltb, le-ltb, eqb-true, eqb-false}
+use borrow.Author.Tests.{eqb-true, eqb-false}
 use lib.Dec.{eqb}
-use lib.ListN.{length, getD, set, replicate, length-set, getD-replicate, List·getD-eq-default}
-use lib.Seq.{getD-set-same, getD-set-other}
-use Rattle.views.specs.Views.{stationsFrom, stationsOf, viewsOf, unlistedIn}
+use lib.ListN.{length}
+use Rattle.views.specs.Views.{stationsOf, viewsOf, unlistedIn}
 use Rattle.views.specs.declared.Ring.{Ring}
 use Rattle.settle_input.specs.declared.Verdict.the-variants as verdicts
-use Rattle.settle_input.specs.Input.{linesOf, entryOf, formsFrom, formsOf, readOf, bad}
-use Rattle.settle_input.specs.Short.{formed, station-most}
+use Rattle.settle_input.specs.Input.{linesOf, stationIn, viewIn, formsOf, unlistedOf, readOf}
+use Rattle.settle_input.specs.Filled.{noViews, Filled, filled-forms, forms-stations, unlisted-line}
 use Rattle.settle_input.specs.Lines.{lines-first}
-
-abbrev pub stationIn : List ℕ → ℕ
-stationIn line = entryOf line .station
-
-abbrev pub viewIn : List ℕ → ℕ
-viewIn line = entryOf line .view
-
--- no station is listed from a place on
-abbrev NoneFrom : List ℕ → ℕ → Type 0
-NoneFrom views j = (i : ℕ) → j ≤ i → getD views i 0 ≡ 0
-
-no-stations : (k : ℕ) (views : List ℕ) → NoneFrom views 0 → stationsFrom k views ≡ []
-no-stations k [] none = refl
-no-stations k (view ∷ views) none =
-    rw (eq-eqb view 0 (none 0 (omega arith))) (no-stations (suc k) views (λ i h. none (suc i) (omega arith)))
-
--- a station that is listed behind all others comes last
-set-station : (k : ℕ) (views : List ℕ) (j view : ℕ) → ¬ (view ≡ 0) → j < length views → NoneFrom views j
-    → stationsFrom k (set views j view) ≡ stationsFrom k views ++ ((k + j) ∷ [])
-set-station k [] j view n h none = absurd (omega arith)
-set-station k (x ∷ views) zero view n h none =
-    rw (ne-eqb view 0 n, eq-eqb x 0 (none 0 (omega arith)), no-stations (suc k) views (λ i l. none (suc i) (omega arith)), add-zero k)
-set-station k (x ∷ views) (suc j) view n h none =
-    go (eqb x 0) (set-station (suc k) views j view n (omega arith) (λ i l. none (suc i) (omega arith)))
-  where
-    go : (t : Bool) → stationsFrom (suc k) (set views j view) ≡ stationsFrom (suc k) views ++ ((suc k + j) ∷ [])
-        → cond t (stationsFrom (suc k) (set views j view)) (k ∷ stationsFrom (suc k) (set views j view))
-        ≡ cond t (stationsFrom (suc k) views) (k ∷ stationsFrom (suc k) views) ++ ((k + suc j) ∷ [])
-    go true e = e ∙ ap (λ (x : ℕ). stationsFrom (suc k) views ++ (x ∷ [])) (omega arith)
-    go false e = ap (λ (l : List ℕ). k ∷ l) (e ∙ ap (λ (x : ℕ). stationsFrom (suc k) views ++ (x ∷ [])) (omega arith))
-
--- what the forms of some lines leave in the ring
-record Filled (below : ℕ) (views : List ℕ) (lines : List (List ℕ)) (ring : Ring) : Type 0 where
-  pub stations : stationsOf ring ≡ stationsFrom 0 views ++ map stationIn lines
-  pub views-of : map (viewsOf ring) (map stationIn lines) ≡ map viewIn lines
-  pub kept : (x : ℕ) → x ≤ below → viewsOf ring x ≡ getD views x 0
-
--- the views with those of one line more
-module _ (below : ℕ) (views line : List ℕ) (all : length views ≡ 256) (none : NoneFrom views (suc below)) (high : below < stationIn line) where
-  with-line : List ℕ
-  with-line = set views (stationIn line) (viewIn line)
-
-  inside : stationIn line < length views
-  inside = omega (arith, station-most line)
-
-  a-view : ¬ (viewIn line ≡ 0)
-  a-view z = let f = formed line (λ e. omega arith) in f .view-number (sym (f .view-is) ∙ z)
-
-  none-with : NoneFrom with-line (suc (stationIn line))
-  unfolding with-line
-  none-with i h = getD-set-other views (stationIn line) i (viewIn line) 0 (λ e. omega arith) ∙ none i (omega arith)
-
-  filled-more : (lines : List (List ℕ)) (ring : Ring) → Filled (stationIn line) with-line lines ring → Filled below views (line ∷ lines) ring
-  unfolding with-line
-  filled-more lines ring f = record {
-    stations = f .stations ∙ ap (λ (l : List ℕ). l ++ map stationIn lines) last ∙ append-assoc (stationsFrom 0 views) (stationIn line ∷ []) (map stationIn lines);
-    views-of = ap₂ _∷_ (f .kept (stationIn line) (omega arith) ∙ getD-set-same views (stationIn line) (viewIn line) 0 inside) (f .views-of);
-    kept = λ x h. f .kept x (omega arith) ∙ getD-set-other views (stationIn line) x (viewIn line) 0 (λ e. omega arith);
-  }
-    where
-      last : stationsFrom 0 (set views (stationIn line) (viewIn line)) ≡ stationsFrom 0 views ++ (stationIn line ∷ [])
-      last =
-          set-station 0 views (stationIn line) (viewIn line) a-view inside (λ i h. none i (omega arith))
-          ∙ ap (λ (x : ℕ). stationsFrom 0 views ++ (x ∷ [])) (zero-add (stationIn line))
-
-filled : (number below : ℕ) (views : List ℕ) (lines : List (List ℕ)) → length views ≡ 256 → NoneFrom views (suc below)
-    → formsFrom (suc number) below views lines .bad ≡ 0 → Filled below views lines (formsFrom (suc number) below views lines .ring)
-unfolding formsFrom with-line
-filled number below views [] all none e = record { stations = sym (append-nil (stationsFrom 0 views)); views-of = refl; kept = λ x h. refl }
-filled number below views (line ∷ lines) all none e =
-    go (decLt below (stationIn line)) (filled (suc number) (stationIn line) (set views (stationIn line) (viewIn line)) lines)
-  where
-    go : Dec (below < stationIn line)
-        → (length (set views (stationIn line) (viewIn line)) ≡ 256 → NoneFrom (set views (stationIn line) (viewIn line)) (suc (stationIn line))
-        → formsFrom (suc (suc number)) (stationIn line) (set views (stationIn line) (viewIn line)) lines .bad ≡ 0
-        → Filled (stationIn line) (set views (stationIn line) (viewIn line)) lines (formsFrom (suc (suc number)) (stationIn line) (set views (stationIn line) (viewIn line)) lines .ring))
-        → Filled below views (line ∷ lines) (formsFrom (suc number) below views (line ∷ lines) .ring)
-    go (yes high) rest =
-        rw (lt-ltb below (stationIn line) high)
-        (filled-more below views line all none high lines (formsFrom (suc (suc number)) (stationIn line) (set views (stationIn line) (viewIn line)) lines .ring)
-        (rest (length-set views (stationIn line) (viewIn line) ∙ all) (none-with below views line all none high) (rw (lt-ltb below (stationIn line) high) at e)))
-    go (no low) rest = absurd (omega (arith, rw (le-ltb below (stationIn line) (omega arith)) at e))
 
 -- What was read, where a ring was read.
 pub record Given (octets : List ℕ) (ring : Ring) : Type 0 where
@@ -110,28 +25,18 @@ pub record Given (octets : List ℕ) (ring : Ring) : Type 0 where
   pub listed : unlistedIn ring ≡ 0
   pub nobody : viewsOf ring 0 ≡ 0
 
-abbrev noViews : List ℕ
-noViews = replicate 256 0
-
-zeros : NoneFrom noViews 0
-zeros i h = go (decLt i 256)
-  where
-    go : Dec (i < 256) → getD noViews i 0 ≡ 0
-    go (yes l) = getD-replicate 256 i 0 0 l
-    go (no l) = List·getD-eq-default noViews 0 {n = i} (omega arith)
-
 -- the tests that an answer with a ring has passed
 record Passed (octets : List ℕ) : Type 0 where
   pub some : 0 < length octets
   pub forms : formsOf octets .bad ≡ 0
-  pub listed : unlistedIn (formsOf octets .ring) ≡ 0
+  pub listed : unlistedOf octets ≡ 0
   pub ring : readOf octets .ring ≡ formsOf octets .ring
 
 passed : (octets : List ℕ) → readOf octets .verdict ≡ verdicts.Ring → Passed octets
 passed octets e =
-    go (eqb (length octets) 0) (eqb (formsOf octets .bad) 0) (eqb (unlistedIn (formsOf octets .ring)) 0) refl refl refl
+    go (eqb (length octets) 0) (eqb (formsOf octets .bad) 0) (eqb (unlistedOf octets) 0) refl refl refl
   where
-    go : (s t u : Bool) → eqb (length octets) 0 ≡ s → eqb (formsOf octets .bad) 0 ≡ t → eqb (unlistedIn (formsOf octets .ring)) 0 ≡ u
+    go : (s t u : Bool) → eqb (length octets) 0 ≡ s → eqb (formsOf octets .bad) 0 ≡ t → eqb (unlistedOf octets) 0 ≡ u
         → Passed octets
     go true t u a b c = let told = rw a at e in let z : _≡_ {A = ℕ} 0 1 = cc in absurd (omega arith)
     go false false u a b c = let told = rw (a, b) at e in let z : _≡_ {A = ℕ} 0 1 = cc in absurd (omega arith)
@@ -148,23 +53,20 @@ passed octets e =
 pub ring-read : (octets : List ℕ) → readOf octets .verdict ≡ verdicts.Ring → Given octets (readOf octets .ring)
 ring-read octets e = subst (Given octets) (sym (p .ring)) (record {
   stations = lines;
-  views = ap (map (viewsOf ring)) lines ∙ f .views-of;
+  views = ap (map (viewsOf (formsOf octets .ring))) lines ∙ f .views-of;
   some = rw lines (one-line octets (p .some));
-  listed = p .listed;
+  listed = unlisted-line octets (p .forms) ∙ p .listed;
   nobody = f .kept 0 (omega arith);
 })
   where
     p : Passed octets
     p = passed octets e
 
-    ring : Ring
-    ring = formsOf octets .ring
+    f : Filled 0 noViews (linesOf octets) (formsOf octets .ring)
+    f = filled-forms octets (p .forms)
 
-    f : Filled 0 noViews (linesOf octets) ring
-    f = filled 0 0 noViews (linesOf octets) refl (λ i h. zeros i (omega arith)) (p .forms)
-
-    lines : stationsOf ring ≡ map stationIn (linesOf octets)
-    lines = f .stations ∙ ap (λ (l : List ℕ). l ++ map stationIn (linesOf octets)) (no-stations 0 noViews zeros)
+    lines : stationsOf (formsOf octets .ring) ≡ map stationIn (linesOf octets)
+    lines = forms-stations octets (p .forms)
 
     one-line : (octets : List ℕ) → 0 < length octets → 0 < length (map stationIn (linesOf octets))
     one-line octets h = rw (lines-first octets h) (omega arith)

@@ -20,7 +20,7 @@ of-map [] views v m = elim m [ ]
 of-map (y ∷ ns) views v (List·Memᴰ·head e) = (y, List·Memᴰ·head refl, e)
 of-map (y ∷ ns) views v (List·Memᴰ·tail m) = let (x, k, e) = of-map ns views v m in (x, List·Memᴰ·tail k, e)
 
-member-in : (x : ℕ) (l : List ℕ) → member x l ≡ true → x ∈ l
+pub member-in : (x : ℕ) (l : List ℕ) → member x l ≡ true → x ∈ l
 member-in x [] e = absurd (false≢true e)
 member-in x (y ∷ l) e = go (eqb x y) refl (member-in x l)
   where
@@ -28,7 +28,7 @@ member-in x (y ∷ l) e = go (eqb x y) refl (member-in x l)
     go true p rest = List·Memᴰ·head (eqb-true x y p)
     go false p rest = List·Memᴰ·tail (rest (rw p at e))
 
-in-member : (x : ℕ) (l : List ℕ) → x ∈ l → member x l ≡ true
+pub in-member : (x : ℕ) (l : List ℕ) → x ∈ l → member x l ≡ true
 in-member x (y ∷ l) (List·Memᴰ·head e) = rw (eq-eqb x y e)
 in-member x (y ∷ l) (List·Memᴰ·tail m) = rw (in-member x l m, or-true (eqb x y))
 

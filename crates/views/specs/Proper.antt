@@ -1,17 +1,19 @@
 -- A ring whose every view is one of its stations, and what an event does to it: what `move` does. Assumes nothing.
 use mathlib.Core.Path.{_≡_, refl, ap, _∙_, sym, subst}
-use mathlib.Core.Bool.{Bool, true, false}
+use mathlib.Core.Bool.{Bool, true, false, false≢true}
 use mathlib.Core.List.{List, [], _∷_, Memᴰ·cast, List·Memᴰ·head, List·Memᴰ·tail}
 use Prim.Native.Nat.{ℕ, suc, _<_}
 use native.Mathlib.Omega.{arith}
 use native.Mathlib.Nat.{zero-add}
-use borrow.Author.Tests.{ne-eqb, not-true, eqb-false}
+use native.Mathlib.Decide.{ℕ-discrete}
+use borrow.Author.Tests.{eq-eqb, ne-eqb, not-true, eqb-false}
 use lib.ListN.{length, List·getD-map}
 use Rattle.settling.specs.Ring.{_∈_, Views, Within, Event, pass, silence, move, Legal}
 use Rattle.settling.specs.Same.{Same}
 use Rattle.settling.specs.Next.{laws-of}
 use Rattle.settling.specs.Moves.{within-stays}
-use Rattle.views.specs.Views.{stationsOf, viewsOf, listed, firstUnlisted, unlistedIn, viewAfter, moved}
+use Rattle.views.specs.Views.{stationsOf, viewsOf, listed, member, firstUnlisted, unlistedIn, viewAfter, moved}
+use Rattle.views.specs.Agreement.{member-in, in-member}
 use Rattle.views.specs.Listed.{station-listed, listed-station, stations-kept, ascending}
 use Rattle.views.specs.declared.Ring.{Ring}
 
@@ -31,6 +33,18 @@ view-station ring x n = subst (λ (y : ℕ). y ∈ stationsOf ring) (zero-add x)
 
 pub not-zero : {ring : Ring} → Proper ring → (x : ℕ) → x ∈ stationsOf ring → ¬ (x ≡ 0)
 not-zero {ring} p x m e = station-view ring x m (ap (viewsOf ring) e ∙ p .nobody)
+
+-- a number is listed where it is one of the stations
+pub listed-member : (ring : Ring) (x : ℕ) → listed (viewsOf ring) x ≡ member x (stationsOf ring)
+listed-member ring x = go (member x (stationsOf ring)) refl
+  where
+    go : (t : Bool) → member x (stationsOf ring) ≡ t → listed (viewsOf ring) x ≡ t
+    go true e = rw (ne-eqb (viewsOf ring x) 0 (station-view ring x (member-in x (stationsOf ring) e)))
+    go false e = other (ℕ-discrete (viewsOf ring x) 0)
+      where
+        other : Dec (viewsOf ring x ≡ 0) → listed (viewsOf ring) x ≡ false
+        other (yes z) = rw (eq-eqb (viewsOf ring x) 0 z)
+        other (no n) = absurd (false≢true (sym e ∙ in-member x (stationsOf ring) (view-station ring x n)))
 
 -- where no line is named, every view is listed
 all-listed : (views : Views) (line : ℕ) (ns : List ℕ) → firstUnlisted views (suc line) ns ≡ 0 → (x : ℕ) → x ∈ ns → ¬ (views (views x) ≡ 0)

@@ -1,7 +1,9 @@
 -- `settle_input::read_ring` meets its contract.
-use mathlib.Core.Path.{_∙_}
+use mathlib.Core.Path.{_∙_, ap}
 use borrow.Author.Tests.{eq-eqb, ne-eqb}
 use borrow.Author.Needs.{needs}
+use Rattle.settle_input.specs.Input.{bad}
+use Rattle.settle_input.specs.Filled.{unlisted-line}
 use Rattle.settle_input.proofs.read_ring.Statement.{statement}
 use Rattle.settle_input.proofs.read_ring.Tie as tie
 
@@ -31,17 +33,21 @@ bad-line-requires-3 c κs = search needs
 
 returns-3 : tie.Need-returns-3
 returns-3 c =
+    let input = c .before .before .before .before .before .before .before .before .before .args .input .now in
     let forms = c .before .before .before .before .before .before .read-forms .ensures in
     let none = rw forms at (c .before .before .before .before .if2 .left) in
-    let unlisted = rw (c .before .before .first-unlisted .ensures, forms) at (c .before .if3 .taken) in
+    let found = (rw forms at (c .before .before .first-unlisted .ensures)) ∙ unlisted-line input none in
+    let unlisted = rw found at (c .before .if3 .taken) in
     rw (ne-eqb _ _ (c .before .before .before .before .before .before .before .if1 .left), eq-eqb _ _ none, ne-eqb _ _ unlisted)
-    (c .bad-line3 .ensures ∙ rw (c .before .before .first-unlisted .ensures, forms))
+    (c .bad-line3 .ensures ∙ ap bad found)
 
 returns-4 : tie.Need-returns-4
 returns-4 c =
+    let input = c .before .before .before .before .before .before .before .before .args .input .now in
     let forms = c .before .before .before .before .before .read-forms .ensures in
     let none = rw forms at (c .before .before .before .if2 .left) in
-    let listed = rw (c .before .first-unlisted .ensures, forms) at (c .if3 .left) in
+    let found = (rw forms at (c .before .first-unlisted .ensures)) ∙ unlisted-line input none in
+    let listed = rw found at (c .if3 .left) in
     rw (ne-eqb _ _ (c .before .before .before .before .before .before .if1 .left), eq-eqb _ _ none, eq-eqb _ _ listed, forms)
 
 pub read-ring-spec : {M : Type 1} → statement M
