@@ -1,12 +1,14 @@
 -- `settle_input::fields::entry_of` meets its contract.
 use mathlib.Core.Path.{_≡_, ap, ap₂, _∙_}
+use mathlib.Core.Bool.{cond, _&&_}
 use mathlib.Core.List.{List}
 use Prim.Native.Nat.{ℕ, _+_, _-_, _<_}
 use native.Mathlib.Nat.{sub-zero}
 use native.Mathlib.Omega.{arith}
+use lib.Dec.{ltb}
 use lib.ListN.{length, take, drop}
 use Rattle.text.specs.Lines.{comma, lineFeed}
-use Rattle.settle_input.specs.Input.{numberIn, before, behind}
+use Rattle.settle_input.specs.Input.{numberIn, before, behind, noEntry, entryOf}
 use Rattle.settle_input.specs.Form.{to-end, no-comma, no-end, entry-made}
 use borrow.Author.Needs.{needs}
 use Rattle.settle_input.proofs.fields.entry_of.Statement.{statement}
@@ -77,31 +79,24 @@ number-in-requires-2 c κs = search needs
 no-entry-requires-3 : tie.Need-no-entry-requires-3
 no-entry-requires-3 c κs = search needs
 
+-- both numbers, as the definition has them
+read : (c : tie.After-number-in2) → cond (ltb 0 (c .before .before .number-in .result) && ltb 0 (c .number-in2 .result)) (record { station = c .before .before .number-in .result; view = c .number-in2 .result }) noEntry ≡ entryOf (c .before .before .before .before .before .before .before .before .before .before .args .line .now)
+read c =
+    let line = c .before .before .before .before .before .before .before .before .before .before .args .line .now in
+    let place = c .before .before .before .before .before .before .before .before .place-of .ensures in
+    let within : before comma line < length line = rw place at (c .before .before .before .before .before .before .before .if1 .left) in
+    let rest : take (length line - (c .before .before .before .before .before .before .before .before .place-of .result + 1)) (drop (c .before .before .before .before .before .before .before .before .place-of .result + 1) line) ≡ behind comma line = to-end line _ ∙ ap (λ (k : ℕ). drop (k + 1) line) place in
+    let end = c .before .before .before .before .before .place-of2 .ensures ∙ ap (before lineFeed) rest in
+    let longer : before lineFeed (behind comma line) < length (behind comma line) = omega (arith, ap length rest, end, c .before .before .before .before .if2 .left) in
+    let station = c .before .before .number-in .ensures ∙ ap (λ (k : ℕ). numberIn (take k line)) (sub-zero _ ∙ place) in
+    let view = c .number-in2 .ensures ∙ ap₂ (λ (k : ℕ) (l : List ℕ). numberIn (take k l)) (sub-zero _ ∙ end) rest in
+    rw (station, view) (entry-made line within longer)
+
 returns-3 : tie.Need-returns-3
-returns-3 c =
-    let line = c .before .before .before .before .before .before .before .before .before .before .before .args .line .now in
-    let place = c .before .before .before .before .before .before .before .before .before .place-of .ensures in
-    let within : before comma line < length line = rw place at (c .before .before .before .before .before .before .before .before .if1 .left) in
-    let rest : take (length line - (c .before .before .before .before .before .before .before .before .before .place-of .result + 1)) (drop (c .before .before .before .before .before .before .before .before .before .place-of .result + 1) line) ≡ behind comma line = to-end line _ ∙ ap (λ (k : ℕ). drop (k + 1) line) place in
-    let end = c .before .before .before .before .before .before .place-of2 .ensures ∙ ap (before lineFeed) rest in
-    let longer : before lineFeed (behind comma line) < length (behind comma line) = omega (arith, ap length rest, end, c .before .before .before .before .before .if2 .left) in
-    let station = c .before .before .before .number-in .ensures ∙ ap (λ (k : ℕ). numberIn (take k line)) (sub-zero _ ∙ place) in
-    let view = c .before .number-in2 .ensures ∙ ap₂ (λ (k : ℕ) (l : List ℕ). numberIn (take k l)) (sub-zero _ ∙ end) rest in
-    let whole = entry-made line within longer in
-    rw (station, view) (rw (rw (station, view) at (c .if3 .taken)) at whole)
+returns-3 c = rw (c .if3 .taken) at (read (c .before))
 
 returns-4 : tie.Need-returns-4
-returns-4 c =
-    let line = c .before .before .before .before .before .before .before .before .before .before .before .before .args .line .now in
-    let place = c .before .before .before .before .before .before .before .before .before .before .place-of .ensures in
-    let within : before comma line < length line = rw place at (c .before .before .before .before .before .before .before .before .before .if1 .left) in
-    let rest : take (length line - (c .before .before .before .before .before .before .before .before .before .before .place-of .result + 1)) (drop (c .before .before .before .before .before .before .before .before .before .before .place-of .result + 1) line) ≡ behind comma line = to-end line _ ∙ ap (λ (k : ℕ). drop (k + 1) line) place in
-    let end = c .before .before .before .before .before .before .before .place-of2 .ensures ∙ ap (before lineFeed) rest in
-    let longer : before lineFeed (behind comma line) < length (behind comma line) = omega (arith, ap length rest, end, c .before .before .before .before .before .before .if2 .left) in
-    let station = c .before .before .before .before .number-in .ensures ∙ ap (λ (k : ℕ). numberIn (take k line)) (sub-zero _ ∙ place) in
-    let view = c .before .before .number-in2 .ensures ∙ ap₂ (λ (k : ℕ) (l : List ℕ). numberIn (take k l)) (sub-zero _ ∙ end) rest in
-    let whole = entry-made line within longer in
-    c .no-entry3 .ensures ∙ rw (rw (station, view) at (c .before .if3 .left)) at whole
+returns-4 c = c .no-entry3 .ensures ∙ (rw (c .before .if3 .left) at (read (c .before .before)))
 
 pub entry-of-spec : {M : Type 1} → statement M
 entry-of-spec =
