@@ -1,0 +1,121 @@
+-- Reading the input of `settle`. Words in quotes are paper 01's, section "settle".
+use mathlib.Core.Bool.{Bool, cond, _&&_}
+use mathlib.Core.List.{List, [], _∷_, map}
+use Prim.Native.Nat.{ℕ, suc, _+_, _-_, _*_}
+use lib.Dec.{eqb, leb, ltb}
+use lib.ListN.{length, getD, take, drop, set, replicate}
+use Rattle.text.specs.Lines.{comma, lineFeed}
+use Rattle.views.specs.Views.{member}
+use Rattle.views.specs.declared.Ring.{Ring}
+use Rattle.settle_input.specs.declared.Entry.{Entry}
+use Rattle.settle_input.specs.declared.Forms.{Forms}
+use Rattle.settle_input.specs.declared.Reading.{Reading}
+use Rattle.settle_input.specs.declared.Verdict.the-variants as verdicts
+use Rattle.settle_input.specs.declared.Line.{Line}
+
+-- an octet in front of the first of some lines
+abbrev pub inFront : ℕ → List (List ℕ) → List (List ℕ)
+inFront octet [] = (octet ∷ []) ∷ []
+inFront octet (line ∷ lines) = (octet ∷ line) ∷ lines
+
+-- "lines .., each ending in a line feed": the input's lines, each with its line feed. What stands behind the last line feed is one
+-- more line, without a line feed.
+unfoldable pub linesOf : List ℕ → List (List ℕ)
+linesOf [] = []
+linesOf (octet ∷ octets) = cond (eqb octet lineFeed) ((octet ∷ []) ∷ linesOf octets) (inFront octet (linesOf octets))
+
+abbrev pub isDigit : ℕ → Bool
+isDigit octet = leb 0x30 octet && leb octet 0x39
+
+-- the value of decimal digits behind a value so far, or 0 where an octet is no digit or the value is above 254
+abbrev pub valueOn : ℕ → List ℕ → ℕ
+valueOn value [] = value
+valueOn value (octet ∷ octets) =
+    cond (isDigit octet)
+    (cond (leb (value * 10 + (octet - 0x30)) 254) (valueOn (value * 10 + (octet - 0x30)) octets) 0)
+    0
+
+-- "two numbers of 1 to 254", "no leading zeros": the number that the octets are, or 0 if they are no such number
+abbrev pub numberIn : List ℕ → ℕ
+numberIn octets = cond (eqb (getD octets 0 0x30) 0x30) 0 (valueOn 0 octets)
+
+-- the number of octets before the first mark, or of all where there is none
+abbrev pub before : ℕ → List ℕ → ℕ
+before mark [] = 0
+before mark (octet ∷ octets) = cond (eqb octet mark) 0 (suc (before mark octets))
+
+-- what stands before the first mark, and behind it
+abbrev pub upTo : ℕ → List ℕ → List ℕ
+upTo mark octets = take (before mark octets) octets
+
+abbrev pub behind : ℕ → List ℕ → List ℕ
+behind mark octets = drop (before mark octets + 1) octets
+
+abbrev pub has : ℕ → List ℕ → Bool
+has mark octets = ltb (before mark octets) (length octets)
+
+abbrev pub noEntry : Entry
+noEntry = record { station = 0; view = 0 }
+
+-- "`station,view` lines": a number, a comma, a number, the line feed; or no entry where a line has another form
+unfoldable pub entryOf : List ℕ → Entry
+entryOf line =
+    cond (has comma line)
+    (cond (has lineFeed (behind comma line))
+    (cond (ltb 0 (numberIn (upTo comma line)) && ltb 0 (numberIn (upTo lineFeed (behind comma line))))
+    (record { station = numberIn (upTo comma line); view = numberIn (upTo lineFeed (behind comma line)) })
+    noEntry)
+    noEntry)
+    noEntry
+
+abbrev pub stationIn : List ℕ → ℕ
+stationIn line = entryOf line .station
+
+abbrev pub viewIn : List ℕ → ℕ
+viewIn line = entryOf line .view
+
+-- a ring with no station
+abbrev pub noRing : Ring
+noRing = record { views = replicate 256 0 }
+
+-- "all line forms (two numbers of 1 to 254, the line feed, stations ascending)": the number of the first line of bad form, counted on from
+-- `number`, where the stations so far are at most `below`; or no such line, and the ring of the views so far with those of all lines
+unfoldable pub formsFrom : ℕ → ℕ → List ℕ → List (List ℕ) → Forms
+formsFrom number below views [] = record { bad = 0; ring = record { views = views } }
+formsFrom number below views (line ∷ lines) =
+    cond (ltb below (stationIn line))
+    (formsFrom (suc number) (stationIn line) (set views (stationIn line) (viewIn line)) lines)
+    (record { bad = number; ring = noRing })
+
+abbrev pub formsOf : List ℕ → Forms
+formsOf octets = formsFrom 1 0 (replicate 256 0) (linesOf octets)
+
+-- "then that each view is listed": the number of the first line, counted on from `number`, whose view is none of the stations, or 0 if
+-- there is none
+abbrev pub unlistedFrom : List ℕ → ℕ → List (List ℕ) → ℕ
+unlistedFrom stations number [] = 0
+unlistedFrom stations number (line ∷ lines) = cond (member (viewIn line) stations) (unlistedFrom stations (suc number) lines) number
+
+abbrev pub unlistedOf : List ℕ → ℕ
+unlistedOf octets = unlistedFrom (map stationIn (linesOf octets)) 1 (linesOf octets)
+
+abbrev pub bad : ℕ → Reading
+bad number = record { verdict = verdicts.Bad number; ring = noRing }
+
+-- "`bad,0` for none"; "all line forms .. are tested first, then that each view is listed; the first line that fails is named"
+abbrev pub readOf : List ℕ → Reading
+readOf octets =
+    cond (eqb (length octets) 0) (bad 0)
+    (cond (eqb (formsOf octets .bad) 0)
+    (cond (eqb (unlistedOf octets) 0)
+    (record { verdict = verdicts.Ring; ring = formsOf octets .ring })
+    (bad (unlistedOf octets)))
+    (bad (formsOf octets .bad)))
+
+-- the first line of octets, with its line feed
+abbrev pub firstLine : List ℕ → List ℕ
+firstLine octets = take (suc (before lineFeed octets)) octets
+
+-- the line that starts at an octet, and the octet behind it
+abbrev pub lineAt : List ℕ → ℕ → Line
+lineAt octets at = record { entry = entryOf (firstLine (drop at octets)); next = at + length (firstLine (drop at octets)) }

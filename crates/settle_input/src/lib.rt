@@ -1,0 +1,116 @@
+// Reading the input of `settle`: the ring, or the number of the first bad line.
+mod fields;
+
+use fields::entry_of;
+use fields::line_length;
+use views::Ring;
+ghost use mathlib.Core.Path.{_≡_};
+ghost use Prim.Native.Nat.{_<_};
+ghost use lib.ListN.{length};
+ghost use Rattle.settle_input.specs.Input.{noRing, lineAt, formsOf, bad, readOf};
+
+// What a line says; both are 0 where it has not the form of a line.
+pub struct Entry {
+    pub station: u8,
+    pub view: u8,
+}
+
+// The number of the first line of bad form, or 0 if there is none, and then the ring of all lines.
+pub struct Forms {
+    pub bad: u32,
+    pub ring: Ring,
+}
+
+pub enum Verdict {
+    Ring,
+    Bad(u32),
+}
+
+// The ring that was read, or the first bad line's number beside a ring with no station.
+pub struct Reading {
+    pub verdict: Verdict,
+    pub ring: Ring,
+}
+
+// A line, and the octet behind it.
+struct Line {
+    entry: Entry,
+    next: usize,
+}
+
+// The line that starts at an octet of the input.
+fn line_at(input: &[u8], at: usize) -> Line
+    requires { ⌜ at < length (now input) ⌝ }
+    ensures { λ r. ⌜ r ≡ lineAt (now (input .entry)) at ⌝ }
+{
+    let rest = &input[at..];
+    let length = line_length(rest);
+    Line {
+        entry: entry_of(&rest[0..length]),
+        next: at + length,
+    }
+}
+
+fn read_forms(input: &[u8]) -> Forms
+    ensures { λ r. ⌜ r ≡ formsOf (now (input .entry)) ⌝ }
+{
+    let mut views = [0u8; 256];
+    let mut below: u8 = 0;
+    let mut line: u32 = 1;
+    let mut at: usize = 0;
+    while at < input.len() {
+        let read = line_at(input, at);
+        let station = read.entry.station;
+        if station <= below {
+            return Forms {
+                bad: line,
+                ring: no_ring(),
+            };
+        }
+        views[station as usize] = read.entry.view;
+        below = station;
+        line += 1;
+        at = read.next;
+    }
+    Forms {
+        bad: 0,
+        ring: Ring { views },
+    }
+}
+
+fn no_ring() -> Ring
+    ensures { λ r. ⌜ r ≡ noRing ⌝ }
+{
+    Ring { views: [0u8; 256] }
+}
+
+fn bad_line(line: u32) -> Reading
+    ensures { λ r. ⌜ r ≡ bad line ⌝ }
+{
+    let ring = no_ring();
+    Reading {
+        verdict: Verdict::Bad(line),
+        ring,
+    }
+}
+
+pub fn read_ring(input: &[u8]) -> Reading
+    ensures { λ r. ⌜ r ≡ readOf (now (input .entry)) ⌝ }
+{
+    if input.len() == 0 {
+        return bad_line(0);
+    }
+    let forms = read_forms(input);
+    if forms.bad != 0 {
+        return bad_line(forms.bad);
+    }
+    let ring = forms.ring;
+    let unlisted = views::first_unlisted(ring);
+    if unlisted != 0 {
+        return bad_line(unlisted);
+    }
+    Reading {
+        verdict: Verdict::Ring,
+        ring,
+    }
+}

@@ -1,0 +1,56 @@
+-- `settle_output::put_step` meets its contract.
+use mathlib.Core.Path.{ap, ap₂, _∙_}
+use mathlib.Core.List.{[], _∷_}
+use Prim.Native.Nat.{ℕ}
+use Rattle.text.specs.Lines.{lineOf}
+use Rattle.settle_output.specs.Output.{writtenTo, lengthIn}
+use borrow.Author.Needs.{needs}
+use Rattle.settle_output.proofs.put_step.Statement.{statement}
+use Rattle.settle_output.proofs.put_step.Tie as tie
+
+letter-requires : tie.Need-letter-requires
+letter-requires c κs = search needs
+
+cast-t8 : tie.Need-cast-t8
+cast-t8 c = search needs
+
+cast-t9 : tie.Need-cast-t9
+cast-t9 c = search needs
+
+different-views-requires : tie.Need-different-views-requires
+different-views-requires c κs = search needs
+
+slice-aggregate-put-in : tie.Need-slice-aggregate-put-in
+slice-aggregate-put-in c = search needs
+
+slice-aggregate-put-in-2 : tie.Need-slice-aggregate-put-in-2
+slice-aggregate-put-in-2 c = search needs
+
+put-in-requires : tie.Need-put-in-requires
+put-in-requires c κs = search needs
+
+same-length : tie.Need-same-length
+same-length c = search needs
+
+returns : tie.Need-returns
+returns c =
+    let a = c .before .before .before .before .before .before .before .before .before .before .before .before .args in
+    let line = ap₂ (λ (letter views : ℕ). lineOf (letter ∷ []) (a .stepped .from ∷ a .stepped .to ∷ views ∷ []))
+    (c .before .before .before .before .before .before .before .before .before .letter .ensures) (c .before .before .before .before .before .before .different-views .ensures) in (
+      c .before .before .put-in .ensures .0 ∙ ap (lengthIn (a .output .now)) line,
+      c .before .before .put-in .ensures .1 ∙ ap (writtenTo (a .output .now)) line,
+    )
+
+pub put-step-spec : {M : Type 1} → statement M
+put-step-spec =
+    tie.close
+    (tie.spec
+    letter-requires
+    cast-t8
+    cast-t9
+    different-views-requires
+    slice-aggregate-put-in
+    slice-aggregate-put-in-2
+    put-in-requires
+    same-length
+    returns)

@@ -1,0 +1,28 @@
+-- `settle_run::limit` meets its contract.
+use mathlib.Core.Path.{sym, ap, _∙_}
+use Prim.Native.Nat.{ℕ, _*_}
+use native.Mathlib.Omega.{arith}
+use Rattle.settle_run.proofs.Counting.{square-most}
+use borrow.Author.Needs.{needs}
+use Rattle.settle_run.proofs.limit.Statement.{statement}
+use Rattle.settle_run.proofs.limit.Tie as tie
+
+stations-requires : tie.Need-stations-requires
+stations-requires c κs = search needs
+
+is-ring-requires : tie.Need-is-ring-requires
+is-ring-requires c κs = search needs
+
+mul-result : tie.Need-mul-result
+mul-result c =
+    let ring = c .before .before .before .args .ring in
+    omega (arith, square-most ring (search needs), ap (λ (n : ℕ). n * n) (c .before .before .stations .ensures))
+
+returns : tie.Need-returns
+returns c = rw (sym (c .before .is-ring .ensures) ∙ c .if1 .taken) (ap (λ (n : ℕ). n * n) (c .before .before .stations .ensures))
+
+returns-2 : tie.Need-returns-2
+returns-2 c = rw (sym (c .before .is-ring .ensures) ∙ c .if1 .left)
+
+pub limit-spec : {M : Type 1} → statement M
+limit-spec = tie.close (tie.spec stations-requires is-ring-requires mul-result returns returns-2)
