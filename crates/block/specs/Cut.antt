@@ -23,6 +23,10 @@ module _ (areas : Areas) where
   pub joined : (block : ℕ) → 1 ≤ block → block < blocksOf areas → startOf block + lengthOf areas block ≡ startOf (block + 1)
   joined block p q = omega arith
 
+  -- no block goes past the turn
+  pub within : (block : ℕ) → block ≤ blocksOf areas → startOf block + lengthOf areas block ≤ octetsOf areas
+  within block h = omega arith
+
   pub at-most : (block : ℕ) → lengthOf areas block ≤ 1024
   at-most block = omega arith
 

@@ -11,3 +11,4 @@ pub mod Asking
 pub mod Calls
 -- Theorems.
 pub mod Refusing
+pub mod Asked
