@@ -1,0 +1,106 @@
+-- Paper 01, "The ring in demand 3": what happens in a ring of full stations. Words in quotes are the paper's.
+use mathlib.Core.Path.{_≡_}
+use mathlib.Core.Bool.{Bool, true, false, cond, _&&_}
+use mathlib.Core.List.{List, [], _∷_}
+use Prim.Native.Nat.{ℕ}
+use lib.Dec.{eqb}
+use lib.ListN.{take}
+use Rattle.frame.specs.Codes.{isToken, isCyclic}
+use Rattle.frame.specs.declared.Code.the-variants.{Request}
+use Rattle.frame.specs.declared.Fields.{Fields}
+use Rattle.frame.specs.declared.Refusal.{Refusal}
+use Rattle.members.specs.Members.{firstOf, isListed, strikes}
+use Rattle.reading.specs.Reading.{readOf}
+use Rattle.reading.specs.declared.Read.the-variants.{Frame}
+use Rattle.settling.specs.Ring.{_∈_, pass, silence}
+use Rattle.settling.specs.Simulation.{Effect, makes, nothing, Machine}
+use Rattle.station.specs.Asking as asking
+use Rattle.station.specs.Calls.{Call, start, hear, after, refusedBy, verdict}
+use Rattle.station.specs.Hearing as hearing
+use Rattle.station.specs.State.{holds}
+use Rattle.station.specs.Ticking.{tickOf, watchEnds}
+use Rattle.station.specs.declared.Asked.{Asked}
+use Rattle.station.specs.declared.Asked.the-variants as answers
+use Rattle.station.specs.declared.Settings.{Settings}
+use Rattle.station.specs.declared.Station.{Station}
+
+-- the stations of a ring, by their numbers
+abbrev pub Stations : Type 0
+Stations = ℕ → Station
+
+-- the buffers that a station lends to hear a frame
+pub record Lent : Type 0 where
+  pub memory : List ℕ
+  pub assembly : List ℕ
+
+-- "An event is one of these: one station is asked for a frame; each other one is then handed what it writes, once. Every station gets one
+-- tick. A stray: one station alone gets any call .." Each call carries the buffers that are lent to it.
+pub data Event : Type 0 where
+  asked : (who : ℕ) (memory turn output : List ℕ) → (ℕ → Lent) → Event
+  ticked : Event
+  stray : (who : ℕ) → Call → Event
+
+-- "Refused, nobody is handed anything."
+abbrev pub handed : Station → Lent → Asked → List ℕ → Station
+handed station lent (answers.Octets count) output = hearing.hearOf station (take count output) (lent .memory) (lent .assembly) .station
+handed station lent (answers.Refused refusal) output = station
+
+-- the stations after an event: "Each call gets the state that its station's last call left"
+abbrev pub afterEvent : Stations → Event → Stations
+afterEvent stations (asked who memory turn output lent) number =
+    cond (eqb number who)
+    (asking.askOf (stations who) memory turn output .station)
+    (handed (stations number) (lent number)
+    (asking.askOf (stations who) memory turn output .answer)
+    (asking.askOf (stations who) memory turn output .output))
+afterEvent stations ticked number = tickOf (stations number) .station
+afterEvent stations (stray who call) number = cond (eqb number who) (after (stations who) call) (stations number)
+
+-- "A pass is an asking that writes code 65000"
+abbrev pub passIf : Bool → ℕ → Asked → Effect
+passIf true who (answers.Octets count) = makes (pass who)
+passIf false who (answers.Octets count) = nothing
+passIf token who (answers.Refused refusal) = nothing
+
+abbrev pub writesToken : Station → Bool
+writesToken station = isToken (asking.dueFields (station .phase) station .code)
+
+-- what an event is to the views: a pass, or "a tick that ends the watches", a silence, which all stations have alike
+abbrev pub effectOf : List ℕ → Stations → Event → Effect
+effectOf numbers stations (asked who memory turn output lent) =
+    passIf (writesToken (stations who)) who (asking.askOf (stations who) memory turn output .answer)
+effectOf numbers stations ticked = cond (watchEnds (stations (firstOf numbers))) (makes silence) nothing
+effectOf numbers stations (stray who call) = nothing
+
+abbrev pub viewsOf : Stations → ℕ → ℕ
+viewsOf stations number = stations number .view
+
+-- the ring as a machine whose views are looked at
+abbrev pub ringMachine : List ℕ → Machine
+ringMachine numbers = record {
+  State = Stations;
+  Input = Event;
+  after = afterEvent;
+  viewsOf = viewsOf;
+  effect = effectOf numbers;
+}
+
+-- "any call that is refused, or any other call but a tick, a stop, an asking, a cyclic frame of whatever number, or a request of a number
+-- outside the ring"
+pub data Stray (numbers : List ℕ) (station : Station) : Call → Type 0 where
+  refused : {call : Call} (refusal : Refusal) → verdict station call ≡ refusedBy refusal → Stray numbers station call
+  starts : (settings : Settings) → Stray numbers station (start settings)
+  harmless : (octets memory assembly : List ℕ) (fields : Fields) → readOf octets ≡ Frame fields → isCyclic (fields .code) ≡ false
+      → (fields .code ≡ Request → fields .source ∈ numbers) → Stray numbers station (hear octets memory assembly)
+
+-- An event that demand 3 covers: buffers "at lengths that 11 lets through, strays aside"; no tick that "ends a holder's watch"; and no
+-- station is struck.
+abbrev pub CanCome : List ℕ → Stations → Event → Type 0
+CanCome numbers stations (asked who memory turn output lent) =
+    (who ∈ numbers) × (asking.lentRight memory turn output ≡ true)
+    × ((number : ℕ) → number ∈ numbers → hearing.lentRight (lent number .memory) (lent number .assembly) ≡ true)
+CanCome numbers stations ticked =
+    ((number : ℕ) → number ∈ numbers → watchEnds (stations number) ≡ true → holds (stations number) ≡ false)
+    × ((number : ℕ) → number ∈ numbers → watchEnds (stations number) ≡ true
+    → (isListed (stations number .members) (stations number .view) && strikes (stations number .members) (stations number .view)) ≡ false)
+CanCome numbers stations (stray who call) = (who ∈ numbers) × Stray numbers (stations who) call

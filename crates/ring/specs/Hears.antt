@@ -1,0 +1,57 @@
+-- A station of the ring hears what another one sends. Assumes nothing.
+use mathlib.Core.Path.{_≡_, refl, ap, sym, _∙_}
+use mathlib.Core.Bool.{Bool, true, false, cond, not, _&&_, _||_, or-true, and-false}
+use mathlib.Core.List.{List}
+use Prim.Native.Nat.{ℕ}
+use native.Mathlib.Decide.{ℕ-discrete}
+use lib.Dec.{eqb}
+use lib.ListN.{length}
+use borrow.Author.Tests.{eq-eqb, ne-eqb}
+use Rattle.frame.specs.Codes.{isToken, isCyclic}
+use Rattle.frame.specs.declared.Fields.{Fields}
+use Rattle.members.specs.Members.{isListed}
+use Rattle.reading.specs.Reading.{readOf, readHeaderOf, readBodyOf, dataOf}
+use Rattle.reading.specs.declared.Read.the-variants.{Frame}
+use Rattle.round_trip.specs.Accepted.{Accepted, accepted}
+use Rattle.settling.specs.Ring.{_∈_}
+use Rattle.station.specs.Data.{gathered}
+use Rattle.station.specs.Hearing.{isTaken, isStranger, knows, lentRight, participantHeard, hearOf}
+use Rattle.station.specs.State.{isParticipating, isOff}
+use Rattle.station.specs.declared.Phase.the-variants.{Participating}
+use Rattle.station.specs.declared.Station.{Station}
+use Rattle.ring.specs.Member.{InRing, listed}
+
+-- octets that are read as fields pass both parts of the reading
+pub header-read : {s : List ℕ} {fields : Fields} → Accepted s fields → readHeaderOf s ≡ Frame fields
+header-read a = simp (a .is-whole, a .is-marked, a .is-long, a .is-coded, a .holds, a .is-addressed)
+
+pub body-read : {s : List ℕ} {fields : Fields} → Accepted s fields → readBodyOf (length s) fields ≡ Frame fields
+body-read a = simp (a .is-ranged, a .is-blocked)
+
+module _ {numbers : List ℕ} {number : ℕ} {station : Station} (in-ring : InRing numbers number station) where
+  -- it knows every station of the ring
+  known : (x : ℕ) → x ∈ numbers → ¬ (x ≡ number) → knows station x ≡ true
+  known x m other = rw (listed in-ring x m other) (or-true (eqb x (station .own .number)))
+
+  known-ring : (x : ℕ) → x ∈ numbers → knows station x ≡ true
+  known-ring x m = by (ℕ-discrete x number)
+    where
+      by : Dec (x ≡ number) → knows station x ≡ true
+      by (yes e) = rw (eq-eqb x (station .own .number) (e ∙ sym (in-ring .own)))
+      by (no other) = known x m other
+
+  module _ (octets memory assembly : List ℕ) (frame : Fields) (read : readOf octets ≡ Frame frame) (lent : lentRight memory assembly ≡ true)
+      (source : frame .source ∈ numbers) (other : ¬ (frame .source ≡ number)) where
+    not-taken : isTaken station frame ≡ false
+    not-taken =
+        let different : eqb (frame .source) (station .own .number) ≡ false = ne-eqb _ _ (λ e. other (e ∙ in-ring .own)) in
+        rw (different, and-false (not (isOff (station .phase))))
+
+    -- a cyclic frame from a station of the ring, with a token for a station of the ring, is accepted
+    pub accepts : isCyclic (frame .code) ≡ true → frame .destination ∈ numbers →
+        hearOf station octets memory assembly ≡ participantHeard station frame (gathered station frame (dataOf octets frame) assembly memory)
+    accepts cyclic destination =
+        let a = accepted octets frame read in
+        let stranger : isStranger station frame ≡ false =
+        simp (known-ring (frame .source) source, known-ring (frame .destination) destination, or-true, and-false) in
+        rw (lent, header-read a, not-taken, body-read a, stranger, in-ring .participates, cyclic)

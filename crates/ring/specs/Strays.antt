@@ -1,0 +1,133 @@
+-- A stray is nothing to the views of the ring. Assumes nothing.
+use mathlib.Core.Path.{_≡_, refl, ap, sym, subst, _∙_}
+use mathlib.Core.Bool.{Bool, true, false, cond, not, _&&_, and-false, false≢true}
+use mathlib.Core.List.{List}
+use Prim.Native.Nat.{ℕ}
+use native.Mathlib.Decide.{ℕ-discrete}
+use native.Mathlib.Omega.{arith}
+use lib.Dec.{eqb}
+use lib.ListN.{length}
+use borrow.Author.Tests.{eq-eqb, ne-eqb, eqb-false}
+use Rattle.frame.specs.Codes.{isCyclic}
+use Rattle.frame.specs.declared.Code.{Code}
+use Rattle.frame.specs.declared.Code.the-variants.{Token, Cyclic, Request, Trigger}
+use Rattle.frame.specs.declared.Fields.{Fields}
+use Rattle.frame.specs.declared.Refusal.the-variants as refusals
+use Rattle.members.specs.Listing.{listing}
+use Rattle.reading.specs.Reading.{readBodyOf, readHeaderOf, readOf}
+use Rattle.reading.specs.declared.Read.the-variants.{Frame}
+use Rattle.round_trip.specs.Accepted.{Accepted, accepted}
+use Rattle.settling.specs.Ring.{_∈_}
+use Rattle.settling.specs.Simulation.{nothing, Moved}
+use Rattle.station.specs.Calls.{Call, start, hear, after, refusedBy, verdict}
+use Rattle.station.specs.Hearing as hearing
+use Rattle.station.specs.Refusing.{Spared, same, turnedOff, refused-left}
+use Rattle.station.specs.Starting.{oursDue}
+use Rattle.station.specs.State.{isParticipating}
+use Rattle.station.specs.declared.Phase.{Phase}
+use Rattle.station.specs.declared.Phase.the-variants.{Participating}
+use Rattle.station.specs.declared.Station.{Station}
+use Rattle.ring.specs.Events.{Stations, Event, stray, afterEvent, effectOf, viewsOf, Stray, refused, starts, harmless, CanCome}
+use Rattle.ring.specs.Hears.{header-read, body-read}
+use Rattle.ring.specs.Lists.{ring-kept}
+use Rattle.ring.specs.Member.{InRing, listed}
+use Rattle.ring.specs.Steps.{Ok}
+
+-- what a stray leaves of a station: its place in the ring, its view and its watch
+pub record Kept (numbers : List ℕ) (number : ℕ) (before left : Station) : Type 0 where
+  pub in-ring : InRing numbers number left
+  pub view : left .view ≡ before .view
+  pub own : left .own ≡ before .own
+  pub elapsed : left .elapsed ≡ before .elapsed
+
+module _ {numbers : List ℕ} {number : ℕ} {station : Station} (in-ring : InRing numbers number station) where
+  unchanged : Kept numbers number station station
+  unchanged = record { in-ring = in-ring; view = refl; own = refl; elapsed = refl }
+
+  unchanged-if : {left : Station} → left ≡ station → Kept numbers number station left
+  unchanged-if e = subst (Kept numbers number station) (sym e) unchanged
+
+  inside : isParticipating (station .phase) ≡ true
+  inside = ap isParticipating (in-ring .participates)
+
+  -- a refused call alters nothing of a participant
+  refused-kept : (call : Call) (refusal : _) → verdict station call ≡ refusedBy refusal → Kept numbers number station (after station call)
+  refused-kept call refusal e = by (refused-left station call refusal e .state)
+    where
+      by : Spared station (after station call) refusal → Kept numbers number station (after station call)
+      by (same d) = unchanged-if d
+      by (turnedOff six out d) = absurd (false≢true (sym out ∙ inside))
+
+  -- a start is refused
+  start-kept : (settings : _) → after station (start settings) ≡ station
+  start-kept settings = rw (in-ring .participates)
+
+  -- a request of another station of the ring replaces its entry
+  request-kept : (frame : Fields) → frame .source ∈ numbers → ¬ (frame .source ≡ number) → Kept numbers number station (hearing.requested station frame)
+  request-kept frame m other = record {
+    in-ring = record {
+      participates = in-ring .participates;
+      own = in-ring .own;
+      list = ring-kept number (frame .source) (station .members) _ (sym (listed in-ring (frame .source) m other)) ∙ in-ring .list;
+      view = in-ring .view;
+      areas = in-ring .areas;
+      place = in-ring .place;
+    };
+    view = refl;
+    own = refl;
+    elapsed = refl;
+  }
+
+  entered-kept : (code : Code) (frame : Fields) → isCyclic code ≡ false → (code ≡ Request → frame .source ∈ numbers) → ¬ (frame .source ≡ number) →
+      Kept numbers number station (hearing.enters Participating code station frame)
+  entered-kept Token frame plain from other = absurd (false≢true (sym plain))
+  entered-kept Cyclic frame plain from other = absurd (false≢true (sym plain))
+  entered-kept Request frame plain from other = request-kept frame (from refl) other
+  entered-kept Trigger frame plain from other = unchanged
+
+  -- a trigger, or a request of a station of the ring
+  frame-kept : (octets memory assembly : List ℕ) (frame : Fields) → readOf octets ≡ Frame frame → isCyclic (frame .code) ≡ false →
+      (frame .code ≡ Request → frame .source ∈ numbers) → Kept numbers number station (hearing.hearOf station octets memory assembly .station)
+  frame-kept octets memory assembly frame read plain from = by (hearing.lentRight memory assembly) refl (ℕ-discrete (frame .source) number)
+    where
+      a : Accepted octets frame
+      a = accepted octets frame read
+
+      by : (lent : Bool) → hearing.lentRight memory assembly ≡ lent → Dec (frame .source ≡ number) → Kept numbers number station (hearing.hearOf station octets memory assembly .station)
+      by false e d = unchanged-if (rw e)
+      by true e (yes mine) =
+          let six : eqb (frame .source) (station .own .number) ≡ true = eq-eqb _ _ (mine ∙ sym (in-ring .own)) in
+          unchanged-if (rw (e, header-read a, in-ring .participates, six))
+      by true e (no other) =
+          let different : eqb (frame .source) (station .own .number) ≡ false = ne-eqb _ _ (λ d. other (d ∙ in-ring .own)) in
+          let left : hearing.hearOf station octets memory assembly .station ≡ hearing.enters Participating (frame .code) station frame =
+          rw (e, header-read a, in-ring .participates, different, body-read a, plain) in
+          subst (Kept numbers number station) (sym left) (entered-kept (frame .code) frame plain from other)
+
+  pub stray-kept : {call : Call} → Stray numbers station call → Kept numbers number station (after station call)
+  stray-kept (refused {call} refusal e) = refused-kept call refusal e
+  stray-kept (starts settings) = unchanged-if (start-kept settings)
+  stray-kept (harmless octets memory assembly fields read plain from) = frame-kept octets memory assembly fields read plain from
+
+module _ (numbers : List ℕ) (stations : Stations) (ok : Ok numbers stations) (who : ℕ) (call : Call) (can : CanCome numbers stations (stray who call)) where
+  left-of : (n : ℕ) → n ∈ numbers → Kept numbers n (stations n) (afterEvent stations (stray who call) n)
+  left-of n m = by (ℕ-discrete n who)
+    where
+      by : Dec (n ≡ who) → Kept numbers n (stations n) (afterEvent stations (stray who call) n)
+      by (yes e) =
+          let here : afterEvent stations (stray who call) who ≡ after (stations who) call = rw (eq-eqb who who refl) in
+          subst (λ (k : ℕ). Kept numbers k (stations k) (afterEvent stations (stray who call) k)) (sym e)
+          (subst (Kept numbers who (stations who)) (sym here) (stray-kept (ok .each who (can .0)) (can .1)))
+      by (no e) =
+          let there : afterEvent stations (stray who call) n ≡ stations n = rw (ne-eqb n who e) in
+          subst (Kept numbers n (stations n)) (sym there) (unchanged (ok .each n m))
+
+  pub stray-ok : Ok numbers (afterEvent stations (stray who call))
+  stray-ok = record {
+    each = λ n m. left-of n m .in-ring;
+    watch = λ n k p q. ap (λ own. own .watch .0) (left-of n p .own) ∙ ok .watch n k p q ∙ sym (ap (λ own. own .watch .0) (left-of k q .own));
+    elapsed = λ n k p q. ap (λ t. t .0) (left-of n p .elapsed) ∙ ok .elapsed n k p q ∙ sym (ap (λ t. t .0) (left-of k q .elapsed));
+  }
+
+  pub stray-moved : Moved numbers (viewsOf stations) (effectOf numbers stations (stray who call)) (viewsOf (afterEvent stations (stray who call)))
+  stray-moved = λ n m. left-of n m .view

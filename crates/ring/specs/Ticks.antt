@@ -1,0 +1,96 @@
+-- A tick is a silence at all stations alike, or nothing, to the views of the ring. Assumes nothing.
+use mathlib.Core.Path.{_≡_, refl, ap, ap₂, sym, subst, _∙_}
+use mathlib.Core.Bool.{Bool, true, false, cond, false≢true}
+use mathlib.Core.List.{List}
+use Prim.Native.Nat.{ℕ, _+_, _*_, min}
+use lib.Dec.{eqb, leb}
+use borrow.Author.Tests.{eqb-false}
+use Rattle.members.specs.Members.{firstOf, nextAfter, isListed, strikes, missed}
+use Rattle.panel.specs.Panel.{ticked as panelTicked}
+use Rattle.settling.specs.Ring.{_∈_, next, silence}
+use Rattle.settling.specs.Simulation.{Effect, makes, nothing, Moved}
+use Rattle.station.specs.State.{holds}
+use Rattle.station.specs.Ticking.{tickOf, watchEnds, watchEnded, counted, later}
+use Rattle.station.specs.declared.Settings.{Settings}
+use Rattle.station.specs.declared.Station.{Station}
+use Rattle.ring.specs.Events.{Stations, Event, ticked, afterEvent, effectOf, viewsOf, CanCome}
+use Rattle.ring.specs.Member.{InRing, next-same, restarted-in, missed-kept}
+use Rattle.ring.specs.Steps.{Ok}
+
+module _ (numbers : List ℕ) (laws-next : (x : ℕ) → x ∈ numbers → next numbers x ∈ numbers) (first-in : firstOf numbers ∈ numbers)
+    (stations : Stations) (ok : Ok numbers stations) (can : CanCome numbers stations ticked) where
+  -- the watches end at all stations alike
+  alike : (n : ℕ) → n ∈ numbers → watchEnds (stations n) ≡ watchEnds (stations (firstOf numbers))
+  alike n m =
+      ap₂ (λ (watch elapsed : ℕ). leb (watch * 10) (elapsed + 1)) (ok .watch n (firstOf numbers) m first-in) (ok .elapsed n (firstOf numbers) m first-in)
+
+  -- a tick that does not end the watch
+  goes-on : (n : ℕ) → n ∈ numbers → watchEnds (stations n) ≡ false → afterEvent stations ticked n
+      ≡ counted (stations n) (stations n .own) (later 2550 (stations n .elapsed)) (stations n .waited) (panelTicked (stations n .panel))
+  goes-on n m e = rw (ok .each n m .participates, e)
+
+  ends : (n : ℕ) → n ∈ numbers → watchEnds (stations n) ≡ true → afterEvent stations ticked n ≡ watchEnded (stations n)
+  ends n m e = rw (ok .each n m .participates, e)
+
+  module _ (e : watchEnds (stations (firstOf numbers)) ≡ false) where
+    quiet : (n : ℕ) (m : n ∈ numbers) → afterEvent stations ticked n
+        ≡ counted (stations n) (stations n .own) (later 2550 (stations n .elapsed)) (stations n .waited) (panelTicked (stations n .panel))
+    quiet n m = goes-on n m (alike n m ∙ e)
+
+    quiet-ok : Ok numbers (afterEvent stations ticked)
+    quiet-ok = record {
+      each = λ n m. subst (InRing numbers n) (sym (quiet n m)) (record {
+        participates = ok .each n m .participates;
+        own = ok .each n m .own;
+        list = ok .each n m .list;
+        view = ok .each n m .view;
+        areas = ok .each n m .areas;
+        place = ok .each n m .place;
+      });
+      watch = λ n k p q. ap (λ (s : Station). s .own .watch .0) (quiet n p) ∙ ok .watch n k p q ∙ sym (ap (λ (s : Station). s .own .watch .0) (quiet k q));
+      elapsed = λ n k p q.
+          ap (λ (s : Station). s .elapsed .0) (quiet n p) ∙ ap (λ (t : ℕ). min 2550 (t + 1)) (ok .elapsed n k p q)
+          ∙ sym (ap (λ (s : Station). s .elapsed .0) (quiet k q));
+    }
+
+    quiet-views : (n : ℕ) → n ∈ numbers → afterEvent stations ticked n .view ≡ stations n .view
+    quiet-views n m = ap (λ (s : Station). s .view) (quiet n m)
+
+  module _ (e : watchEnds (stations (firstOf numbers)) ≡ true) where
+    ended : (n : ℕ) (m : n ∈ numbers) → afterEvent stations ticked n ≡ watchEnded (stations n)
+    ended n m = ends n m (alike n m ∙ e)
+
+    ended-view : (n : ℕ) (m : n ∈ numbers) → nextAfter (stations n .own .number) (stations n .members) (stations n .view) ≡ next numbers (stations n .view)
+    ended-view n m = next-same (ok .each n m) (stations n .view)
+
+    ended-ok : Ok numbers (afterEvent stations ticked)
+    ended-ok = record {
+      each = λ n m.
+          subst (InRing numbers n) (sym (ended n m))
+          (restarted-in (ok .each n m) (missed (stations n .members) (stations n .view)) (nextAfter (stations n .own .number) (stations n .members) (stations n .view)) _ _
+          (missed-kept (ok .each n m) (stations n .view) (can .1 n m (alike n m ∙ e)))
+          (rw (ended-view n m) (laws-next (stations n .view) (ok .each n m .view))));
+      watch = λ n k p q. ap (λ (s : Station). s .own .watch .0) (ended n p) ∙ ok .watch n k p q ∙ sym (ap (λ (s : Station). s .own .watch .0) (ended k q));
+      elapsed = λ n k p q. ap (λ (s : Station). s .elapsed .0) (ended n p) ∙ sym (ap (λ (s : Station). s .elapsed .0) (ended k q));
+    }
+
+    ended-moved : Moved numbers (viewsOf stations) (makes silence) (viewsOf (afterEvent stations ticked))
+    ended-moved = (
+      λ x m d. eqb-false (stations x .view) (stations x .own .number) (can .0 x m (alike x m ∙ e)) (d ∙ sym (ok .each x m .own)),
+      λ x m. ap (λ (s : Station). s .view) (ended x m) ∙ ended-view x m,
+    )
+
+  ticked-ok-if : (test : Bool) → watchEnds (stations (firstOf numbers)) ≡ test → Ok numbers (afterEvent stations ticked)
+  ticked-ok-if true e = ended-ok e
+  ticked-ok-if false e = quiet-ok e
+
+  pub ticked-ok : Ok numbers (afterEvent stations ticked)
+  ticked-ok = ticked-ok-if (watchEnds (stations (firstOf numbers))) refl
+
+  ticked-moved-if : (test : Bool) → watchEnds (stations (firstOf numbers)) ≡ test →
+      Moved numbers (viewsOf stations) (cond test (makes silence) nothing) (viewsOf (afterEvent stations ticked))
+  ticked-moved-if true e = ended-moved e
+  ticked-moved-if false e = quiet-views e
+
+  pub ticked-moved : Moved numbers (viewsOf stations) (effectOf numbers stations ticked) (viewsOf (afterEvent stations ticked))
+  ticked-moved = ticked-moved-if (watchEnds (stations (firstOf numbers))) refl

@@ -1,0 +1,1 @@
+// The ring of full stations: definitions and theorems. There is no code here: they stand in specs/.
