@@ -11,3 +11,8 @@ pub mod Asking
 pub mod Calls
 -- Theorems.
 pub mod Refusing
+-- The panel.
+pub mod History
+pub mod PanelCounts
+pub mod PanelSteps
+pub mod PanelIsGap
