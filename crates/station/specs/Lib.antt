@@ -14,5 +14,8 @@ pub mod Refusing
 -- The panel.
 pub mod History
 pub mod PanelCounts
-pub mod PanelSteps
+pub mod PanelMoves
+pub mod PanelTicked
+pub mod PanelHeard
+pub mod PanelAsked
 pub mod PanelIsGap
