@@ -35,9 +35,9 @@ abbrev pub stepsOn : List Step → Station → List Call → List Step
 stepsOn earlier station [] = earlier
 stepsOn earlier station (call ∷ rest) = stepsOn (stepOf station call ∷ earlier) (after station call) rest
 
--- the steps of a list of calls since off, the latest first
-abbrev pub history : List Call → List Step
-history calls = stepsOn [] never calls
+-- the steps of a list of calls since a state, the latest first
+abbrev pub history : Station → List Call → List Step
+history station calls = stepsOn [] station calls
 
 abbrev pub participates : Station → Bool
 participates station = isParticipating (station .phase)
@@ -80,7 +80,7 @@ takingBy before passed left = (arrives before left || passed) || (begins before 
 abbrev pub isTaking : Step → Bool
 isTaking step = takingBy (step .before) (passes (step .before) (step .call)) (step .left)
 
--- the ticks up to now, since off
+-- the ticks up to now
 abbrev pub clock : List Step → ℕ
 clock [] = 0
 clock (step ∷ earlier) = cond (isTick (step .call)) (suc (clock earlier)) (clock earlier)
@@ -105,9 +105,13 @@ lastGap [] = Nothing
 lastGap (last ∷ []) = Nothing
 lastGap (last ∷ previous ∷ rest) = gapShown (last - previous)
 
--- "With fewer than two takings since we last began to participate, or when we don't participate, `--`"
+-- what the history of a list of calls says: "With fewer than two takings since we last began to participate, or when we don't participate, `--`"
+abbrev pub saidSince : Station → List Call → Figure
+saidSince station calls = cond (participates (stateAfter station calls)) (lastGap (takings (history station calls))) Nothing
+
+-- since a station was made, never started yet
 abbrev pub figureSaid : List Call → Figure
-figureSaid calls = cond (participates (stateAfter never calls)) (lastGap (takings (history calls))) Nothing
+figureSaid calls = saidSince never calls
 
 -- what the panel of a state shows
 abbrev pub figureShown : Station → Figure

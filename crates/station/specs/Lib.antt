@@ -11,7 +11,7 @@ pub mod Asking
 pub mod Calls
 -- Theorems.
 pub mod Refusing
--- The panel.
+-- Demand 2, the panel: what the history of the calls says, and that the panel shows it.
 pub mod History
 pub mod PanelCounts
 pub mod PanelMoves
@@ -19,3 +19,4 @@ pub mod PanelTicked
 pub mod PanelHeard
 pub mod PanelAsked
 pub mod PanelIsGap
+pub mod PanelCases

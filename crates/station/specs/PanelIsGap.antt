@@ -1,5 +1,5 @@
 -- Demand 2: "The panel is the gap. For every list of calls since off, the panel shows what the history of that list says." Assumes nothing.
-use mathlib.Core.Path.{_≡_, refl}
+use mathlib.Core.Path.{_≡_, refl, sym, _∙_}
 use mathlib.Core.Bool.{Bool, true, false, cond, not, _&&_, false≢true}
 use mathlib.Core.List.{List, [], _∷_}
 use Prim.Native.Nat.{ℕ, suc}
@@ -11,13 +11,15 @@ use Rattle.panel.specs.declared.Figure.the-variants.{Nothing}
 use Rattle.panel.specs.declared.Panel.{Panel}
 use Rattle.reading.specs.Reading.{isStation}
 use Rattle.station.specs.Calls.{Call, start, stop, tick, hear, ask, after}
-use Rattle.station.specs.History.{Step, stepOf, stepsOn, history, stateAfter, participates, isTick, passes, isTaking, clock, noted, takings, lastGap, figureSaid, figureShown}
+use Rattle.station.specs.History.{Step, stepOf, stepsOn, history, stateAfter, participates, isTick, passes, isTaking, clock, noted, takings, lastGap, saidSince, figureSaid, figureShown}
 use Rattle.station.specs.PanelAsked.{ask-moves}
 use Rattle.station.specs.PanelCounts.{Counts, counts-tick, counts-taken, counts-shown}
 use Rattle.station.specs.PanelHeard.{hear-moves}
 use Rattle.station.specs.PanelMoves.{Room, Moved, Moves, leave}
 use Rattle.station.specs.PanelTicked.{tick-moves, need-moves}
-use Rattle.station.specs.State.{isOff, never}
+use Rattle.station.specs.State.{isOff, isParticipating, never}
+use Rattle.station.specs.declared.Phase.{Phase}
+use Rattle.station.specs.declared.Phase.the-variants.{Off, Listening, Startup, Joining, Participating}
 use Rattle.station.specs.declared.Station.{Station}
 
 -- what every call does to the panel
@@ -31,12 +33,10 @@ moves station tick = tick-moves (station .phase) station
 moves station (hear octets memory assembly) = hear-moves (station .phase) station octets memory assembly
 moves station (ask memory turn output) = ask-moves (station .phase) station memory turn output
 
--- what holds after these steps: a participant's counters are those of the history, and its turn is not yet sent whole; anybody else's panel is
--- blank
+-- what holds of a participant after these steps: its counters are those of the history, and a block of its turn is left to send
 record Agrees (steps : List Step) (station : Station) : Type 0 where
   counts : participates station ≡ true → Counts (clock steps) (takings steps) (station .panel)
   room : participates station ≡ true → Room station
-  clear : participates station ≡ false → station .panel ≡ blank
 
 -- a step's taking
 after-taking : (taking : Bool) (now : ℕ) (times : List ℕ) (panel : Panel) → Counts now times panel →
@@ -57,7 +57,6 @@ agrees-step : (steps : List Step) (station : Station) (call : Call) → Agrees s
 agrees-step steps station call agrees = record {
   counts = λ e. counted (moves station call .inside (agrees .room) e) e;
   room = λ e. moves station call .inside (agrees .room) e .room;
-  clear = moves station call .outside (agrees .clear);
 }
   where
     counted : Moved station (isTick call) (passes station call) (after station call) → participates (after station call) ≡ true →
@@ -68,30 +67,51 @@ agrees-step steps station call agrees = record {
         (before-taking (participates station) (participates (after station call)) (isTick call) (clock steps) (takings steps) (station .panel) e
         (agrees .counts)))
 
-agrees-on : (calls : List Call) (steps : List Step) (station : Station) → Agrees steps station →
+counts-on : (calls : List Call) (steps : List Step) (station : Station) → Agrees steps station →
     Agrees (stepsOn steps station calls) (stateAfter station calls)
-agrees-on [] steps station agrees = agrees
-agrees-on (call ∷ rest) steps station agrees =
-    agrees-on rest (stepOf station call ∷ steps) (after station call) (agrees-step steps station call agrees)
+counts-on [] steps station agrees = agrees
+counts-on (call ∷ rest) steps station agrees =
+    counts-on rest (stepOf station call ∷ steps) (after station call) (agrees-step steps station call agrees)
 
--- every list of calls since off
-agrees : (calls : List Call) → Agrees (history calls) (stateAfter never calls)
-agrees calls = agrees-on calls [] never (record { counts = λ e. absurd (false≢true e); room = λ e. absurd (false≢true e); clear = λ e. refl })
+-- an off station does not participate
+off-outside : (phase : Phase) → isOff phase ≡ true → isParticipating phase ≡ false
+off-outside Off e = refl
+off-outside Listening e = refl
+off-outside Startup e = refl
+off-outside Joining e = refl
+off-outside Participating e = absurd (false≢true e)
 
--- The panel is the gap.
-pub panel-is-gap : (calls : List Call) → figureShown (stateAfter never calls) ≡ figureSaid calls
-panel-is-gap calls = by (participates (stateAfter never calls)) refl
+-- The panel is the gap, for every list of calls since any off state.
+pub panel-since : (station : Station) → isOff (station .phase) ≡ true → (calls : List Call) →
+    figureShown (stateAfter station calls) ≡ saidSince station calls
+panel-since station off calls = by (participates (stateAfter station calls)) refl
   where
-    by : (inside : Bool) → participates (stateAfter never calls) ≡ inside →
-        cond inside (figureOf (stateAfter never calls .panel)) Nothing ≡ cond inside (lastGap (takings (history calls))) Nothing
-    by true e = counts-shown (clock (history calls)) (takings (history calls)) (stateAfter never calls .panel) (agrees calls .counts e)
+    out : participates station ≡ true → ⊥
+    out e = false≢true (sym (off-outside (station .phase) off) ∙ e)
+
+    counts : participates (stateAfter station calls) ≡ true →
+        Counts (clock (history station calls)) (takings (history station calls)) (stateAfter station calls .panel)
+    counts = counts-on calls [] station (record { counts = λ e. absurd (out e); room = λ e. absurd (out e) }) .counts
+
+    by : (inside : Bool) → participates (stateAfter station calls) ≡ inside →
+        cond inside (figureOf (stateAfter station calls .panel)) Nothing ≡ cond inside (lastGap (takings (history station calls))) Nothing
+    by true e = counts-shown (clock (history station calls)) (takings (history station calls)) (stateAfter station calls .panel) (counts e)
     by false e = refl
 
--- The counters alone show it too: whoever does not participate has a blank panel.
+-- And so for every list of calls since a station was made.
+pub panel-is-gap : (calls : List Call) → figureShown (stateAfter never calls) ≡ figureSaid calls
+panel-is-gap calls = panel-since never refl calls
+
+-- Whoever does not participate has blank counters, so that the counters alone show the same.
+clear-on : (calls : List Call) (station : Station) → (participates station ≡ false → station .panel ≡ blank) →
+    participates (stateAfter station calls) ≡ false → stateAfter station calls .panel ≡ blank
+clear-on [] station clear = clear
+clear-on (call ∷ rest) station clear = clear-on rest (after station call) (moves station call .outside clear)
+
 pub counters-show-gap : (calls : List Call) → figureOf (stateAfter never calls .panel) ≡ figureSaid calls
-counters-show-gap calls = by (participates (stateAfter never calls)) refl
+counters-show-gap calls = by (participates (stateAfter never calls)) refl ∙ panel-is-gap calls
   where
     by : (inside : Bool) → participates (stateAfter never calls) ≡ inside →
-        figureOf (stateAfter never calls .panel) ≡ cond inside (lastGap (takings (history calls))) Nothing
-    by true e = counts-shown (clock (history calls)) (takings (history calls)) (stateAfter never calls .panel) (agrees calls .counts e)
-    by false e = let clear = agrees calls .clear e in rw clear
+        figureOf (stateAfter never calls .panel) ≡ cond inside (figureOf (stateAfter never calls .panel)) Nothing
+    by true e = refl
+    by false e = let clear = clear-on calls never (λ d. refl) e in rw clear
