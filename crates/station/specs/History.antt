@@ -6,7 +6,6 @@ use mathlib.Core.List.{List, [], _∷_}
 use lib.Dec.{eqb, ltb}
 use Rattle.frame.specs.Codes.{isToken}
 use Rattle.frame.specs.declared.Fields.{Fields}
-use Rattle.panel.specs.Panel.{figureOf}
 use Rattle.panel.specs.declared.Figure.{Figure}
 use Rattle.panel.specs.declared.Figure.the-variants.{Nothing, Over, Gap}
 use Rattle.station.specs.Asking.{askOf, dueFields}
@@ -80,16 +79,17 @@ takingBy before passed left = (arrives before left || passed) || (begins before 
 abbrev pub isTaking : Step → Bool
 isTaking step = takingBy (step .before) (passes (step .before) (step .call)) (step .left)
 
--- the ticks up to now
+-- the ticks up to now, the latest step's own included
 abbrev pub clock : List Step → ℕ
 clock [] = 0
 clock (step ∷ earlier) = cond (isTick (step .call)) (suc (clock earlier)) (clock earlier)
 
--- the clock at each taking "since we last began to participate", the latest first. A tick counts before it acts: the tick that makes a taking
--- belongs to the gap that it ends.
+-- a time put in front of the times before it, if there was a taking
 abbrev pub noted : Bool → ℕ → List ℕ → List ℕ
 noted taking now times = cond taking (now ∷ times) times
 
+-- the clock at each taking "since we last began to participate", the latest first. A tick counts before it acts: the tick that makes a taking
+-- belongs to the gap that it ends.
 abbrev pub takings : List Step → List ℕ
 takings [] = []
 takings (step ∷ earlier) =
@@ -112,7 +112,3 @@ saidSince station calls = cond (participates (stateAfter station calls)) (lastGa
 -- since a station was made, never started yet
 abbrev pub figureSaid : List Call → Figure
 figureSaid calls = saidSince never calls
-
--- what the panel of a state shows
-abbrev pub figureShown : Station → Figure
-figureShown station = cond (participates station) (figureOf (station .panel)) Nothing

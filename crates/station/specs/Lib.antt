@@ -13,6 +13,7 @@ pub mod Calls
 pub mod Refusing
 -- Demand 2, the panel: what the history of the calls says, and that the panel shows it.
 pub mod History
+pub mod Showing
 pub mod PanelCounts
 pub mod PanelMoves
 pub mod PanelTicked

@@ -12,7 +12,6 @@ use Rattle.frame.specs.declared.Code.the-variants.{Token, Cyclic}
 use Rattle.frame.specs.declared.Refusal.the-variants as refusals
 use Rattle.panel.specs.Panel.{taken}
 use Rattle.station.specs.Asking as asking
-use Rattle.station.specs.Calls.{after}
 use Rattle.station.specs.History.{passedBy}
 use Rattle.station.specs.State.{holds}
 use Rattle.station.specs.declared.Phase.{Phase}
@@ -20,11 +19,12 @@ use Rattle.station.specs.declared.Phase.the-variants.{Off, Listening, St
 use Rattle.station.specs.declared.Station.{Station}
 use Rattle.station.specs.PanelMoves.{in-phase, Moves, enter, leave, stays, begin, us}
 
--- asking
+-- the frame has code 65000 where the block is the last
 last-code : (block blocks : ℕ) → block < blocks → isToken (cond (eqb (block + 1) blocks) Token Cyclic) ≡ leb blocks (block + 1)
 last-code block blocks room = by (leb blocks (block + 1)) refl (eqb (block + 1) blocks) refl
   where
-    by : (last : Bool) → leb blocks (block + 1) ≡ last → (same : Bool) → eqb (block + 1) blocks ≡ same → isToken (cond same Token Cyclic) ≡ last
+    by : (last : Bool) → leb blocks (block + 1) ≡ last → (same : Bool) → eqb (block + 1) blocks ≡ same →
+        isToken (cond same Token Cyclic) ≡ last
     by true e true d = refl
     by true e false d =
         let over = leb-true blocks (block + 1) e in
@@ -35,6 +35,7 @@ last-code block blocks room = by (leb blocks (block + 1)) refl (eqb (block + 1) 
         absurd (omega arith)
     by false e false d = refl
 
+-- a holder sends a block
 sends : (station : Station) → holds station ≡ true →
     Moves (us station) false (passedBy (us station) (asking.written (us station) [] [] .answer)) (asking.blockSent (us station))
 sends station held = enter refl (λ room. record {

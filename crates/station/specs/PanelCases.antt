@@ -4,16 +4,15 @@ use mathlib.Core.List.{List, [], _∷_, _++_}
 use Prim.Native.Nat.{ℕ}
 use lib.ListN.{replicate}
 use Rattle.members.specs.Members.{noMembers}
-use Rattle.panel.specs.declared.Figure.{Figure}
 use Rattle.panel.specs.declared.Figure.the-variants.{Nothing, Gap}
 use Rattle.reading.specs.Reading.{fieldsOf}
 use Rattle.round_trip.specs.Sent.{blockFields}
 use Rattle.station.specs.Calls.{Call, start, stop, tick, hear, ask}
-use Rattle.station.specs.History.{stepsOn, takings, lastGap, stateAfter, figureSaid, figureShown}
+use Rattle.station.specs.History.{stepsOn, takings, lastGap, stateAfter, figureSaid}
 use Rattle.station.specs.PanelIsGap.{panel-is-gap}
+use Rattle.station.specs.Showing.{figureShown}
 use Rattle.station.specs.State.{begun, never}
 use Rattle.station.specs.declared.Settings.{Settings}
-use Rattle.station.specs.declared.Station.{Station}
 use Rattle.writing.specs.Writing.{noAreas, frameOf, headerOf, frontOf, backOf, fixedFor}
 
 -- station 1 has no areas, so that its turn is one block

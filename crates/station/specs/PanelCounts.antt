@@ -1,16 +1,14 @@
 -- The panel's counters, which stop at 65,536 ticks and at 2 takings, against the plain times of the takings. Assumes nothing.
-use mathlib.Core.Path.{_≡_, refl, _∙_, ap}
+use mathlib.Core.Path.{_≡_, refl, ap}
 use mathlib.Core.Bool.{Bool, true, false, cond}
 use mathlib.Core.List.{List, [], _∷_}
-use Prim.Native.Nat.{ℕ, suc, _+_, _-_, _≤_, min}
+use Prim.Native.Nat.{ℕ, suc, _-_, _≤_, min}
 use native.Mathlib.Omega.{arith}
-use borrow.Author.Tests.{lt-ltb, le-ltb, ltb-true, ltb-false}
+use borrow.Author.Tests.{lt-ltb, ltb-true, ltb-false}
 use lib.Dec.{ltb}
-use Rattle.panel.specs.Panel.{blank, ticked, taken, figureOf}
-use Rattle.panel.specs.declared.Figure.{Figure}
-use Rattle.panel.specs.declared.Figure.the-variants.{Nothing, Over, Gap}
+use Rattle.panel.specs.Panel.{ticked, taken, figureOf}
 use Rattle.panel.specs.declared.Panel.{Panel}
-use Rattle.station.specs.History.{gapShown, lastGap}
+use Rattle.station.specs.History.{Step, isTick, isTaking, begins, clock, noted, takings, gapShown, lastGap}
 
 -- the counters at a time, with one taking or more behind us
 pub record Running (now last : ℕ) (panel : Panel) : Type 0 where
@@ -59,3 +57,27 @@ pub counts-shown : (now : ℕ) (times : List ℕ) (panel : Panel) → Counts now
 counts-shown now [] panel c = rw c
 counts-shown now (last ∷ []) panel c = rw (c .0)
 counts-shown now (last ∷ previous ∷ rest) panel c = rw (c .0, c .2) (gap-shown (last - previous))
+
+-- the times of takings, the latest first, none later than now: so a gap is the one time less the other, and nothing is cut off at 0
+abbrev pub Falling : ℕ → List ℕ → Type 0
+Falling now [] = Unit
+Falling now (last ∷ earlier) = (last ≤ now) × Falling last earlier
+
+falling-on : (now later : ℕ) (times : List ℕ) → now ≤ later → Falling now times → Falling later times
+falling-on now later [] up f = tt
+falling-on now later (last ∷ earlier) up f = let past = f .0 in (omega arith, f .1)
+
+pub takings-fall : (steps : List Step) → Falling (clock steps) (takings steps)
+takings-fall [] = tt
+takings-fall (step ∷ earlier) =
+    by (isTaking step) (begins (step .before) (step .left)) (isTick (step .call)) (clock earlier) (takings earlier) (takings-fall earlier)
+  where
+    since : (begun ticks : Bool) (now : ℕ) (times : List ℕ) → Falling now times → Falling (cond ticks (suc now) now) (cond begun [] times)
+    since true ticks now times f = tt
+    since false true now times f = falling-on now (suc now) times (omega arith) f
+    since false false now times f = f
+
+    by : (taking begun ticks : Bool) (now : ℕ) (times : List ℕ) → Falling now times →
+        Falling (cond ticks (suc now) now) (noted taking (cond ticks (suc now) now) (cond begun [] times))
+    by true begun ticks now times f = (omega arith, since begun ticks now times f)
+    by false begun ticks now times f = since begun ticks now times f

@@ -19,7 +19,7 @@ use Rattle.station.specs.declared.Phase.the-variants.{Off, Listening, St
 use Rattle.station.specs.declared.Station.{Station}
 use Rattle.station.specs.PanelMoves.{in-phase, Moves, enter, leave, stays, us, restarts}
 
--- hearing: number 6, then a frame that no refusal met
+-- number 6
 six : (phase : Phase) (station : Station) → Moves (in-phase phase station) false false (afterTaken (in-phase phase station))
 six Off station = leave refl (λ clear. refl)
 six Listening station = leave refl (λ clear. refl)
@@ -27,6 +27,7 @@ six Startup station = leave refl (λ clear. refl)
 six Joining station = leave refl (λ clear. refl)
 six Participating station = stays (us station)
 
+-- a frame that a participant does not take as a cyclic one
 enters-moves : (phase : Phase) (code : Code) (station : Station) (frame : Fields) →
     Moves (in-phase phase station) false false (enters phase code (in-phase phase station) frame)
 enters-moves Off code station frame = leave refl (λ clear. clear refl)
@@ -48,6 +49,7 @@ enters-moves Participating Request station frame =
     enter refl (λ room. record { panel = stays (us station) .inside room refl .panel; room = room refl })
 enters-moves Participating Trigger station frame = stays (us station)
 
+-- a frame that no refusal met
 accepts : (phase : Phase) (station : Station) (frame : Fields) (octets memory assembly : List ℕ) →
     Moves (in-phase phase station) false false (accepted (in-phase phase station) frame octets memory assembly .station)
 accepts Off station frame octets memory assembly = enters-moves Off (frame .code) station frame

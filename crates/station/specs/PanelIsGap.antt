@@ -11,12 +11,13 @@ use Rattle.panel.specs.declared.Figure.the-variants.{Nothing}
 use Rattle.panel.specs.declared.Panel.{Panel}
 use Rattle.reading.specs.Reading.{isStation}
 use Rattle.station.specs.Calls.{Call, start, stop, tick, hear, ask, after}
-use Rattle.station.specs.History.{Step, stepOf, stepsOn, history, stateAfter, participates, isTick, passes, isTaking, clock, noted, takings, lastGap, saidSince, figureSaid, figureShown}
+use Rattle.station.specs.History.{Step, stepOf, stepsOn, history, stateAfter, participates, isTick, passes, isTaking, clock, noted, takings, lastGap, saidSince, figureSaid}
 use Rattle.station.specs.PanelAsked.{ask-moves}
 use Rattle.station.specs.PanelCounts.{Counts, counts-tick, counts-taken, counts-shown}
 use Rattle.station.specs.PanelHeard.{hear-moves}
 use Rattle.station.specs.PanelMoves.{Room, Moved, Moves, leave}
 use Rattle.station.specs.PanelTicked.{tick-moves, need-moves}
+use Rattle.station.specs.Showing.{figureShown}
 use Rattle.station.specs.State.{isOff, isParticipating, never}
 use Rattle.station.specs.declared.Phase.{Phase}
 use Rattle.station.specs.declared.Phase.the-variants.{Off, Listening, Startup, Joining, Participating}
@@ -45,7 +46,8 @@ after-taking true now times panel c = counts-taken now times panel c
 after-taking false now times panel c = c
 
 -- and the panel before it: blank where we begin to participate, else with the step's tick
-before-taking : (before left ticks : Bool) (now : ℕ) (times : List ℕ) (panel : Panel) → left ≡ true → (before ≡ true → Counts now times panel) →
+before-taking : (before left ticks : Bool) (now : ℕ) (times : List ℕ) (panel : Panel) →
+    left ≡ true → (before ≡ true → Counts now times panel) →
     Counts (cond ticks (suc now) now) (cond (not before && left) [] times) (cond before (cond ticks (ticked panel) panel) blank)
 before-taking before false ticks now times panel e c = absurd (false≢true e)
 before-taking true true true now times panel e c = counts-tick now times panel (c refl)
@@ -53,7 +55,8 @@ before-taking true true false now times panel e c = c refl
 before-taking false true ticks now times panel e c = refl
 
 -- one step more
-agrees-step : (steps : List Step) (station : Station) (call : Call) → Agrees steps station → Agrees (stepOf station call ∷ steps) (after station call)
+agrees-step : (steps : List Step) (station : Station) (call : Call) → Agrees steps station →
+    Agrees (stepOf station call ∷ steps) (after station call)
 agrees-step steps station call agrees = record {
   counts = λ e. counted (moves station call .inside (agrees .room) e) e;
   room = λ e. moves station call .inside (agrees .room) e .room;

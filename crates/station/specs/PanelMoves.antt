@@ -78,7 +78,8 @@ stays station = record {
 -- we begin to participate
 pub begin : (phase : Phase) (before : Station) (ticks : Bool) (own : Settings) (members : Members) (view : ℕ) →
     isParticipating phase ≡ false → Moves (in-phase phase before) ticks false (begun own members view)
-begin phase before ticks own members view out = enter refl (λ room. record { panel = by (isParticipating phase) out (eqb view (own .number)); room = omega arith })
+begin phase before ticks own members view out =
+    enter refl (λ room. record { panel = by (isParticipating phase) out (eqb view (own .number)); room = omega arith })
   where
     by : (p : Bool) → p ≡ false → (h : Bool) → cond h (taken blank) blank ≡
         cond ((((p && true) && (h && not (holds before))) || false) || ((not p && true) && h))
