@@ -11,3 +11,6 @@ pub mod Asking
 pub mod Calls
 -- Theorems.
 pub mod Refusing
+-- What holds in every state that calls can leave.
+pub mod Reachable
+pub mod ListKept
