@@ -14,3 +14,4 @@ pub mod Refusing
 -- What holds in every state that calls can leave.
 pub mod Reachable
 pub mod ListKept
+pub mod Keeps
