@@ -15,3 +15,6 @@ pub mod Refusing
 pub mod Reachable
 pub mod ListKept
 pub mod Keeps
+pub mod KeepsEntering
+pub mod KeepsHearing
+pub mod KeepsAsking
