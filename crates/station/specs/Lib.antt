@@ -18,3 +18,6 @@ pub mod Keeps
 pub mod KeepsEntering
 pub mod KeepsHearing
 pub mod KeepsAsking
+pub mod Apart
+pub mod ApartTicking
+pub mod ApartHearing
