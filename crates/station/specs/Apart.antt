@@ -1,9 +1,9 @@
 -- No overlap between listed areas, nor between them and ours once our request has fallen due: the definition, and what the operations on the
 -- list keep of it. Assumes nothing.
-use mathlib.Core.Path.{_≡_, refl, sym, ap, ap₂, subst, _∙_}
+use mathlib.Core.Path.{_≡_, refl, sym, ap₂, _∙_}
 use mathlib.Core.Bool.{Bool, true, false, cond, not, _&&_, _||_, false≢true}
 use mathlib.Core.List.{List, [], _∷_}
-use Prim.Native.Nat.{ℕ, zero, suc, _+_, _≤_, _<_}
+use Prim.Native.Nat.{ℕ, zero, suc, _+_}
 use native.Mathlib.Omega.{arith}
 use lib.Dec.{eqb}
 use lib.ListN.{getD}
@@ -11,8 +11,8 @@ use borrow.Author.Tests.{ne-eqb}
 use Rattle.area.specs.Overlap.{filled, startsBeforeEnd, partsOverlap, areasOverlap}
 use Rattle.area.specs.declared.Areas.{Areas}
 use Rattle.area.specs.declared.Part.{Part}
-use Rattle.members.specs.Listing.{bare, overlapFrom, overlapsOther, overlapsListed, listing}
-use Rattle.members.specs.Members.{nobody, noMembers, entryOf, isListed, withEntry, missesSet, cleared, struck, strikes, missed}
+use Rattle.members.specs.Listing.{bare, overlapFrom, overlapsOther, listing}
+use Rattle.members.specs.Members.{nobody, noMembers, entryOf, isListed, withEntry, missesSet, struck, strikes, missed}
 use Rattle.members.specs.declared.Entry.{Entry}
 use Rattle.members.specs.declared.Members.{Members}
 use Rattle.units.specs.declared.Milliseconds.{Milliseconds}

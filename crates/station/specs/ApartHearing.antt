@@ -1,8 +1,8 @@
 -- Hearing and asking keep the areas apart; so they are apart in every state that calls can leave. Assumes nothing.
-use mathlib.Core.Path.{_≡_, refl, sym, ap, _∙_}
-use mathlib.Core.Bool.{Bool, true, false, cond, not, _&&_, _||_, false≢true}
+use mathlib.Core.Path.{_≡_, refl, sym, _∙_}
+use mathlib.Core.Bool.{Bool, true, false, cond, _&&_, false≢true}
 use mathlib.Core.List.{List}
-use Prim.Native.Nat.{ℕ, _+_, _*_, _≤_, _<_, min}
+use Prim.Native.Nat.{ℕ, _≤_}
 use native.Mathlib.Omega.{arith}
 use lib.Dec.{eqb, leb, ltb}
 use lib.ListN.{length}
@@ -23,12 +23,12 @@ use Rattle.station.specs.Apart.{Disjoint, Clear, Apart, disjoint-misses,
 use Rattle.station.specs.ApartTicking.{fresh-apart, start-apart, stop-apart, tick-apart, station-from}
 use Rattle.station.specs.Asking as asking
 use Rattle.station.specs.Calls.{Call, start, stop, tick, hear, ask, after}
-use Rattle.station.specs.Data.{gathered, without}
+use Rattle.station.specs.Data.{gathered}
 use Rattle.station.specs.Hearing.{relisted, requested, enters, entersAnswer, participantHeard, accepted, isTaken, afterTaken, isStranger, lentRight, refused, bodyHeard, headerHeard, hearOf}
 use Rattle.station.specs.KeepsAsking.{sound}
 use Rattle.station.specs.Reachable.{Reachable, unstarted, called, Sound}
-use Rattle.station.specs.Starting.{requestFallen, oursDue, endsRound, joinedBy}
-use Rattle.station.specs.State.{isOff, isParticipating, fresh, stopped, begun}
+use Rattle.station.specs.Starting.{requestFallen, oursDue, joinedBy}
+use Rattle.station.specs.State.{isOff, isParticipating, fresh, stopped}
 use Rattle.station.specs.Waits.{numberWait}
 use Rattle.station.specs.declared.Gathering.{Gathering}
 use Rattle.station.specs.declared.Phase.{Phase}

@@ -1,8 +1,8 @@
 -- Start, stop and a tick keep the areas apart. Assumes nothing.
-use mathlib.Core.Path.{_≡_, refl, sym, ap, _∙_}
+use mathlib.Core.Path.{_≡_, refl, sym, _∙_}
 use mathlib.Core.Bool.{Bool, true, false, cond, not, _&&_, false≢true}
 use mathlib.Core.List.{List, [], _∷_}
-use Prim.Native.Nat.{ℕ, _+_, _*_, _≤_, _<_, min}
+use Prim.Native.Nat.{ℕ, _+_, _≤_, min}
 use native.Mathlib.Omega.{arith}
 use lib.Dec.{eqb, leb, ltb}
 use borrow.Author.Tests.{leb-true, ltb-false, le-leb}
@@ -11,18 +11,17 @@ use Rattle.area.specs.Areas.{inRange}
 use Rattle.frame.specs.declared.Refusal.{Refusal}
 use Rattle.frame.specs.declared.Refusal.the-variants as refusals
 use Rattle.members.specs.Listing.{bare, overlapsListed}
-use Rattle.members.specs.Members.{isListed, numbersOf, strikes, missed, smallest, nextAfter}
-use Rattle.members.specs.declared.Members.{Members}
+use Rattle.members.specs.Members.{numbersOf}
 use Rattle.panel.specs.Panel.{ticked}
 use Rattle.panel.specs.declared.Panel.{Panel}
 use Rattle.reading.specs.Reading.{isStation}
 use Rattle.units.specs.declared.Ticks.{Ticks}
-use Rattle.station.specs.Apart.{Disjoint, Clear, Apart, no-overlap, disjoint-none, clear-none, disjoint-missed, clear-missed}
+use Rattle.station.specs.Apart.{Clear, Apart, no-overlap, disjoint-none, clear-none, disjoint-missed, clear-missed}
 use Rattle.station.specs.Reachable.{Sound}
 use Rattle.station.specs.Starting.{Switching, need, startOf, stopOf, requestFallen, startedUp}
-use Rattle.station.specs.State.{isOff, fresh, begun}
+use Rattle.station.specs.State.{isOff, fresh}
 use Rattle.station.specs.Ticking.{later, counted, fallsDue, startupTick, joiningWait, joiningTick, watchEnded, watchEnds, participantTick, tickedBy, tickOf}
-use Rattle.station.specs.Waits.{detectionWait, acceptanceTime, numberWait, listeningTime}
+use Rattle.station.specs.Waits.{detectionWait, acceptanceTime, numberWait}
 use Rattle.station.specs.declared.Phase.{Phase}
 use Rattle.station.specs.declared.Phase.the-variants.{Off, Listening, Startup, Joining, Participating}
 use Rattle.station.specs.declared.Settings.{Settings}

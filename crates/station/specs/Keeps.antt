@@ -1,29 +1,28 @@
 -- Start, stop and a tick keep what holds in every state. Assumes nothing.
-use mathlib.Core.Path.{_≡_, refl, sym, ap, subst, _∙_}
+use mathlib.Core.Path.{_≡_, refl, sym, _∙_}
 use mathlib.Core.Bool.{Bool, true, false, cond, not, _&&_, false≢true}
 use mathlib.Core.List.{List, [], _∷_}
-use Prim.Native.Nat.{ℕ, _+_, _*_, _≤_, _<_, min}
+use Prim.Native.Nat.{ℕ, _+_, _≤_, _<_, min}
 use native.Mathlib.Omega.{arith}
 use lib.Dec.{eqb, leb, ltb}
-use borrow.Author.Tests.{leb-true, leb-false, ltb-true, eqb-false}
+use borrow.Author.Tests.{leb-false, ltb-true, eqb-false}
 use Rattle.laws.specs.Tests.{first, second}
 use Rattle.area.specs.Areas.{inRange}
 use Rattle.block.specs.Blocks.{blocksOf}
 use Rattle.frame.specs.declared.Refusal.{Refusal}
 use Rattle.frame.specs.declared.Refusal.the-variants as refusals
 use Rattle.members.specs.Listing.{bare, overlapsListed}
-use Rattle.members.specs.Members.{nobody, noMembers, isListed, numbersOf, strikes, missed, struck, entryOf, withEntry, missesSet, smallest, nextAfter}
+use Rattle.members.specs.Members.{nobody, isListed, numbersOf, strikes, missed, struck, entryOf, withEntry, missesSet, smallest, nextAfter}
 use Rattle.members.specs.declared.Members.{Members}
 use Rattle.panel.specs.Panel.{ticked}
 use Rattle.panel.specs.declared.Panel.{Panel}
 use Rattle.reading.specs.Reading.{isStation}
 use Rattle.units.specs.declared.Ticks.{Ticks}
-use Rattle.writing.specs.Writing.{noAreas, noWatch}
 use Rattle.station.specs.Data.{without}
 use Rattle.station.specs.ListKept.{none-listed, empty-kept, missed-kept, next-station, smallest-station, bare-range, placed-with, placed-misses}
 use Rattle.station.specs.Reachable.{TypedSettings, Ours, Listed, Placed, hasView, limitOf, Sound}
 use Rattle.station.specs.Starting.{Switching, need, startOf, stopOf, startedUp}
-use Rattle.station.specs.State.{isOff, isParticipating, nothing, noTicks, fresh, stopped, never, holds, begun}
+use Rattle.station.specs.State.{isOff, isParticipating, nothing, fresh, begun}
 use Rattle.station.specs.Ticking.{later, counted, fallsDue, startupTick, joiningWait, joiningTick, watchEnded, watchEnds, participantTick, tickedBy, tickOf}
 use Rattle.station.specs.Token.{restarted}
 use Rattle.station.specs.Waits.{detectionWait, acceptanceTime, numberWait, listeningTime, watchTicks}

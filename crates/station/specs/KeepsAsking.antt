@@ -1,10 +1,10 @@
 -- Asking for a frame keeps what holds in every state; so it holds in every state that calls can leave. Assumes nothing.
-use mathlib.Core.Path.{_≡_, refl, sym, ap, _∙_}
-use mathlib.Core.Bool.{Bool, true, false, cond, _&&_, false≢true}
+use mathlib.Core.Path.{_≡_, refl, sym, _∙_}
+use mathlib.Core.Bool.{Bool, true, false, cond, false≢true}
 use mathlib.Core.List.{List}
-use Prim.Native.Nat.{ℕ, _+_, _<_}
+use Prim.Native.Nat.{ℕ, _<_}
 use native.Mathlib.Omega.{arith}
-use lib.Dec.{eqb, leb}
+use lib.Dec.{eqb}
 use borrow.Author.Tests.{leb-false}
 use Rattle.block.specs.Blocks.{blocksOf}
 use Rattle.frame.specs.declared.Refusal.the-variants as refusals
@@ -16,7 +16,7 @@ use Rattle.station.specs.Keeps.{off-sound, startup-sound, begun-sound, s
 use Rattle.station.specs.KeepsHearing.{hear-sound}
 use Rattle.station.specs.ListKept.{next-station}
 use Rattle.station.specs.Reachable.{Typed, Reachable, unstarted, called, Ours, Sound}
-use Rattle.station.specs.State.{isParticipating, holds}
+use Rattle.station.specs.State.{holds}
 use Rattle.station.specs.declared.Phase.{Phase}
 use Rattle.station.specs.declared.Phase.the-variants.{Off, Listening, Startup, Joining, Participating}
 use Rattle.station.specs.declared.Station.{Station}

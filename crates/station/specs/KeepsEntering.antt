@@ -1,47 +1,38 @@
 -- What a frame that is not refused keeps, but for a participant's data. Assumes nothing.
-use mathlib.Core.Path.{_≡_, refl, sym, ap, subst, _∙_}
-use mathlib.Core.Bool.{Bool, true, false, cond, not, _&&_, _||_, false≢true}
+use mathlib.Core.Path.{_≡_, refl, sym, ap, _∙_}
+use mathlib.Core.Bool.{Bool, true, false, cond, _&&_, false≢true}
 use mathlib.Core.List.{List}
 use Prim.Native.Nat.{ℕ, _+_, _≤_, _<_, min}
 use native.Mathlib.Omega.{arith}
 use lib.Dec.{eqb, leb, ltb}
-use lib.ListN.{length, getD}
-use borrow.Author.Tests.{leb-true, le-leb, eqb-true, eqb-false, ne-eqb, not-false}
+use lib.ListN.{getD}
+use borrow.Author.Tests.{leb-true, le-leb, eqb-true, eqb-false, ne-eqb}
 use Rattle.laws.specs.Tests.{both, first, second}
 use Rattle.area.specs.Areas.{inRange}
 use Rattle.area.specs.declared.Areas.{Areas}
-use Rattle.block.specs.Blocks.{blocksOf, startOf}
-use Rattle.copying.specs.Pasted.{pasted}
+use Rattle.block.specs.Blocks.{blocksOf}
 use Rattle.frame.specs.Codes.{isToken, isCyclic, carriesAreas}
 use Rattle.frame.specs.Positions.{TW}
 use Rattle.frame.specs.declared.Code.{Code}
 use Rattle.frame.specs.declared.Code.the-variants.{Token, Cyclic, Request, Trigger}
 use Rattle.frame.specs.declared.Fields.{Fields}
-use Rattle.frame.specs.declared.Refusal.{Refusal}
-use Rattle.frame.specs.declared.Refusal.the-variants as refusals
 use Rattle.members.specs.Listing.{listing}
-use Rattle.members.specs.Members.{entryOf, isListed, cleared}
-use Rattle.members.specs.declared.Members.{Members}
-use Rattle.reading.specs.Reading.{need, andThen, isStation, ranged, blocked, fieldsOf, readHeaderOf, readBodyOf, readOf, dataOf}
-use Rattle.reading.specs.declared.Read.{Read}
-use Rattle.reading.specs.declared.Read.the-variants.{Frame, Refused}
-use Rattle.round_trip.specs.Accepted.{Accepted, accepted as read-accepted}
+use Rattle.reading.specs.Reading.{isStation, fieldsOf}
+use Rattle.round_trip.specs.Accepted.{Accepted}
 use Rattle.round_trip.specs.Shown.{source-is, destination-is, areas-are, block-is}
 use Rattle.writing.specs.Writing.{noAreas}
-use Rattle.station.specs.Data.{Gathered, sameAreas, isNext, dropped, storing, gathered, without}
-use Rattle.station.specs.Hearing.{relisted, requested, enters, entersAnswer, participantHeard, accepted, isTaken, afterTaken, knows, isStranger, lentRight, refused, bodyHeard, headerHeard, hearOf}
-use Rattle.station.specs.Keeps.{off-sound, startup-sound, restarted-sound}
-use Rattle.station.specs.ListKept.{none-listed, empty-kept, listing-kept, cleared-kept, placed-with, placed-misses}
+use Rattle.station.specs.Data.{sameAreas}
+use Rattle.station.specs.Hearing.{requested, enters}
+use Rattle.station.specs.Keeps.{startup-sound}
+use Rattle.station.specs.ListKept.{empty-kept, listing-kept, placed-with}
 use Rattle.station.specs.Reachable.{Ours, Listed, Placed, Sound}
 use Rattle.station.specs.Starting.{oursDue, endsRound, joinedBy}
-use Rattle.station.specs.State.{isOff, isParticipating, nothing, noTicks, fresh, stopped}
-use Rattle.station.specs.Token.{viewAfter, viewHeard, restarted}
+use Rattle.station.specs.State.{isOff, isParticipating, nothing, noTicks, fresh}
+use Rattle.station.specs.Token.{viewHeard}
 use Rattle.station.specs.Waits.{detectionWait, numberWait}
-use Rattle.station.specs.declared.Gathering.{Gathering}
 use Rattle.station.specs.declared.Phase.{Phase}
 use Rattle.station.specs.declared.Phase.the-variants.{Off, Listening, Startup, Joining, Participating}
 use Rattle.station.specs.declared.Station.{Station}
-use Rattle.units.specs.declared.Ticks.{Ticks}
 
 -- a frame that came through 1 to 5, 7 and 8
 pub record Fit (frame : Fields) : Type 0 where

@@ -12,13 +12,12 @@ use Rattle.block.specs.Blocks.{blocksOf, startOf}
 use Rattle.copying.specs.Pasted.{pasted}
 use Rattle.frame.specs.Codes.{isToken, isCyclic}
 use Rattle.frame.specs.declared.Fields.{Fields}
-use Rattle.frame.specs.declared.Refusal.{Refusal}
 use Rattle.frame.specs.declared.Refusal.the-variants as refusals
 use Rattle.members.specs.Members.{entryOf, isListed, cleared}
 use Rattle.reading.specs.Reading.{need, andThen, ranged, blocked, readHeaderOf, readBodyOf, readOf, dataOf}
 use Rattle.reading.specs.declared.Read.{Read}
 use Rattle.reading.specs.declared.Read.the-variants.{Frame, Refused}
-use Rattle.round_trip.specs.Accepted.{Accepted, accepted as read-accepted}
+use Rattle.round_trip.specs.Accepted.{accepted as read-accepted}
 use Rattle.station.specs.Data.{Gathered, turnWritten, sameAreas, isNext, dropped, gathered}
 use Rattle.station.specs.Hearing.{Hearing, enters, entersAnswer, participantHeard, accepted, isTaken, afterTaken, knows, isStranger, lentRight, refused, bodyHeard, headerHeard, hearOf}
 use Rattle.station.specs.Keeps.{off-sound, restarted-sound}

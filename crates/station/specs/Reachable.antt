@@ -1,12 +1,10 @@
 -- The states that calls can leave since off, and what holds in each of them: the definitions alone.
 use mathlib.Core.Path.{_≡_}
 use mathlib.Core.Bool.{Bool, true, false, _&&_}
-use mathlib.Core.List.{List}
 use Prim.Native.Nat.{ℕ, _+_, _≤_, _<_}
 use lib.Dec.{eqb}
 use lib.ListN.{getD, length}
 use Rattle.area.specs.Areas.{inRange}
-use Rattle.area.specs.declared.Areas.{Areas}
 use Rattle.area.specs.declared.Part.{Part}
 use Rattle.block.specs.Blocks.{blocksOf}
 use Rattle.members.specs.Members.{entryOf, isListed}
