@@ -1,6 +1,6 @@
 -- Asking for a frame keeps what holds in every state; so it holds in every state that calls can leave. Assumes nothing.
 use mathlib.Core.Path.{_≡_, refl, sym, _∙_}
-use mathlib.Core.Bool.{Bool, true, false, cond, false≢true}
+use mathlib.Core.Bool.{Bool, true, false, cond, _&&_, false≢true}
 use mathlib.Core.List.{List}
 use Prim.Native.Nat.{ℕ, _<_}
 use native.Mathlib.Omega.{arith}
@@ -12,8 +12,9 @@ use Rattle.reading.specs.Reading.{isStation}
 use Rattle.writing.specs.Writing.{noAreas, noWatch}
 use Rattle.station.specs.Asking.{dueIn, nextBlock, isLast, nextStation, turnAfter, requestSent, blockSent, sentIn, lentRight, refused, written, askOf}
 use Rattle.station.specs.Calls.{Call, start, stop, tick, hear, ask, after}
-use Rattle.station.specs.Keeps.{off-sound, startup-sound, begun-sound, start-sound, stop-sound, tick-sound}
 use Rattle.station.specs.KeepsHearing.{hear-sound}
+use Rattle.station.specs.KeepsStarting.{taken-shown, off-sound, startup-sound, begun-sound, start-sound, stop-sound}
+use Rattle.station.specs.KeepsTicking.{tick-sound}
 use Rattle.station.specs.ListKept.{next-station}
 use Rattle.station.specs.Reachable.{Typed, Reachable, unstarted, called, Ours, Sound}
 use Rattle.station.specs.State.{holds}
@@ -27,16 +28,19 @@ module _ (station : Station) (ok : Sound station) where
   request-sound = record {
     list = ok .list;
     empty = ok .empty;
+    number = ok .number;
     ours = ok .ours;
     rounds = ok .rounds;
     elapsed = ok .elapsed;
     waited = ok .waited;
     unwaited = ok .unwaited;
     view = ok .view;
+    unseen = ok .unseen;
     place = ok .place;
     unheld = ok .unheld;
     gathering = ok .gathering;
     ungathered = ok .ungathered;
+    panel = ok .panel;
   }
 
   -- a block of ours, sent while we hold
@@ -47,16 +51,19 @@ module _ (station : Station) (ok : Sound station) where
       record {
         list = ok .list;
         empty = λ z. absurd (false≢true z);
+        number = ok .number;
         ours = λ z. ours;
         rounds = ok .rounds;
         elapsed = omega arith;
         waited = ok .waited;
         unwaited = ok .unwaited;
         view = λ z. view ours (isLast station);
+        unseen = λ z. absurd (false≢true (sym z));
         place = place (isLast station) refl;
         unheld = unheld (isLast station);
         gathering = ok .gathering;
         ungathered = λ z. absurd (false≢true (sym z));
+        panel = taken-shown (isLast station && eqb (nextStation station) (station .own .number)) (ok .panel);
       }
     where
       view : Ours (station .own) → (last : Bool) → isStation (cond last (nextStation station) (station .view)) ≡ true
@@ -101,5 +108,5 @@ kept station (ask memory turn output) typed ok = ask-sound station ok memory tur
 
 -- what holds in every state that any list of calls with any arguments can leave since off
 pub sound : (station : Station) → Reachable station → Sound station
-sound _ unstarted = off-sound (record { number = 0; areas = noAreas; watch = noWatch })
+sound _ unstarted = off-sound (record { number = 0; areas = noAreas; watch = noWatch }) (omega arith)
 sound _ (called call reached typed) = kept _ call typed (sound _ reached)

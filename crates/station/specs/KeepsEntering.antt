@@ -23,9 +23,9 @@ use Rattle.round_trip.specs.Shown.{source-is, destination-is, areas-are, block-
 use Rattle.writing.specs.Writing.{noAreas}
 use Rattle.station.specs.Data.{sameAreas}
 use Rattle.station.specs.Hearing.{requested, enters}
-use Rattle.station.specs.Keeps.{startup-sound}
+use Rattle.station.specs.KeepsStarting.{blank-shown, number-to, startup-sound}
 use Rattle.station.specs.ListKept.{empty-kept, listing-kept, placed-with}
-use Rattle.station.specs.Reachable.{Ours, Listed, Placed, Sound}
+use Rattle.station.specs.Reachable.{Ours, Listed, Placed, Shown, Sound}
 use Rattle.station.specs.Starting.{oursDue, endsRound, joinedBy}
 use Rattle.station.specs.State.{isOff, isParticipating, nothing, noTicks, fresh}
 use Rattle.station.specs.Token.{viewHeard}
@@ -65,21 +65,24 @@ module _ (station : Station) (frame : Fields) (fits : Fit frame) where
   joined-sound : Ours (station .own) → Listed (station .own .number) (station .members) → station .rounds ≤ 3 → station .elapsed .0 < detectionWait
       → station .waited .0 ≤ numberWait (station .own .number) → (eqb (station .rounds) 3 ≡ false → station .waited .0 ≡ 0)
       → (isToken (frame .code) ≡ false → isStation (station .view) ≡ true) → station .gathering .source ≡ 0
-      → eqb (frame .source) (station .own .number) ≡ false → carriesAreas (frame .code) ≡ true
+      → eqb (frame .source) (station .own .number) ≡ false → carriesAreas (frame .code) ≡ true → Shown (station .panel)
       → Sound (joinedBy station frame)
-  joined-sound ours list three below most early seen none other carries = record {
+  joined-sound ours list three below most early seen none other carries shown = record {
     list = listed (ltb (station .rounds) 3);
     empty = λ e. absurd (false≢true e);
+    number = number-to (station .own) ours;
     ours = λ e. ours;
     rounds = counted (endsRound frame);
     elapsed = ticks (isToken (frame .code));
     waited = most;
     unwaited = unwaited (endsRound frame);
     view = λ e. view (isToken (frame .code)) refl;
+    unseen = λ e. absurd (false≢true (sym e));
     place = omega arith;
     unheld = λ e. refl;
     gathering = λ e. absurd (eqb-false (station .gathering .source) 0 e none);
     ungathered = λ e. none;
+    panel = shown;
   }
     where
       listed : (test : Bool) → Listed (station .own .number)
@@ -130,28 +133,31 @@ module _ (station : Station) (frame : Fields) (ok : Sound station) (fits : Fit f
   enters-joining : frame .code ≡ Token → Sound (joinedBy (fresh Joining (station .own)) frame)
   enters-joining c =
       joined-sound (fresh Joining (station .own)) frame fits (ok .ours on) (empty-kept (station .own .number)) (omega arith) (omega arith) (omega arith)
-      (λ e. refl) (λ e. absurd (false≢true (sym e ∙ rw c))) refl other (rw c)
+      (λ e. refl) (λ e. absurd (false≢true (sym e ∙ rw c))) refl other (rw c) blank-shown
 
   goes-on-joining : station .phase ≡ Joining → carriesAreas (frame .code) ≡ true → Sound (joinedBy station frame)
   goes-on-joining e carries =
       joined-sound station frame fits (ok .ours on) (ok .list) (ok .rounds) (rw e at (ok .elapsed)) (ok .waited)
-      (ok .unwaited) (λ t. ok .view (rw e)) (ok .ungathered (rw e)) other carries
+      (ok .unwaited) (λ t. ok .view (rw e)) (ok .ungathered (rw e)) other carries (ok .panel)
 
   -- a request that is listed
   requested-sound : carriesAreas (frame .code) ≡ true → Sound (requested station frame)
   requested-sound carries = record {
     list = listing-kept (frame .source) (frame .areas) (frame .watch) (oursDue station) (ok .list) (fits .source) other (fits .areas carries) (fits .watch);
     empty = λ e. absurd (false≢true (sym on ∙ e));
+    number = ok .number;
     ours = ok .ours;
     rounds = ok .rounds;
     elapsed = ok .elapsed;
     waited = ok .waited;
     unwaited = ok .unwaited;
     view = ok .view;
+    unseen = ok .unseen;
     place = ok .place;
     unheld = ok .unheld;
     gathering = placed (eqb (frame .source) (station .gathering .source)) refl;
     ungathered = λ e. none e (eqb (frame .source) (station .gathering .source));
+    panel = ok .panel;
   }
     where
       placed : (same : Bool) → eqb (frame .source) (station .gathering .source) ≡ same

@@ -20,7 +20,7 @@ use Rattle.reading.specs.declared.Read.the-variants.{Frame, Refused}
 use Rattle.round_trip.specs.Accepted.{accepted as read-accepted}
 use Rattle.station.specs.Data.{Gathered, turnWritten, sameAreas, isNext, dropped, gathered}
 use Rattle.station.specs.Hearing.{Hearing, enters, entersAnswer, participantHeard, accepted, isTaken, afterTaken, knows, isStranger, lentRight, refused, bodyHeard, headerHeard, hearOf}
-use Rattle.station.specs.Keeps.{off-sound, restarted-sound}
+use Rattle.station.specs.KeepsStarting.{off-sound, restarted-sound}
 use Rattle.station.specs.KeepsEntering.{Fit, fit, same-blocks, enters-sound, view-station}
 use Rattle.station.specs.ListKept.{cleared-kept, placed-misses}
 use Rattle.station.specs.Reachable.{Placed, hasView, Sound}
@@ -132,6 +132,7 @@ module _ (station : Station) (frame : Fields) (ok : Sound station) (fits : Fit f
           (cleared-kept (ok .list) (frame .source))
           (view-station station frame ok fits on (other on) (ok .view (view-of (station .phase) p)))
           (gathered-placed listed c (dataOf octets frame) assembly memory)
+          (ok .panel)
       by true p false c = entered (station .phase) refl
       by false p cyclic c = entered (station .phase) refl
 
@@ -169,7 +170,7 @@ module _ (station : Station) (octets memory assembly : List ℕ) (ok : Sound sta
     where
       off : (participating : Bool) → Sound (cond participating station (stopped station))
       off true = ok
-      off false = off-sound _
+      off false = off-sound _ (ok .number)
 
       by : (is-taken : Bool) → isTaken station frame ≡ is-taken → Sound
           (cond is-taken

@@ -14,7 +14,8 @@ pub mod Refusing
 -- What holds in every state that calls can leave.
 pub mod Reachable
 pub mod ListKept
-pub mod Keeps
+pub mod KeepsStarting
+pub mod KeepsTicking
 pub mod KeepsEntering
 pub mod KeepsHearing
 pub mod KeepsAsking

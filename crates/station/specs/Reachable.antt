@@ -10,6 +10,7 @@ use Rattle.block.specs.Blocks.{blocksOf}
 use Rattle.members.specs.Members.{entryOf, isListed}
 use Rattle.members.specs.declared.Entry.{Entry}
 use Rattle.members.specs.declared.Members.{Members}
+use Rattle.panel.specs.declared.Panel.{Panel}
 use Rattle.reading.specs.Reading.{isStation}
 use Rattle.units.specs.declared.Milliseconds.{Milliseconds}
 use Rattle.station.specs.Calls.{Call, start, stop, tick, hear, ask, after}
@@ -83,6 +84,14 @@ pub record Placed (members : Members) (gathering : Gathering) : Type 0 where
   -- blocks are still to come
   pub blocks : gathering .blocks < blocksOf (entryOf members (gathering .source) .areas)
 
+-- the panel's counts
+pub record Shown (panel : Panel) : Type 0 where
+  -- no more than two takings are counted
+  pub takings : panel .takings ≤ 2
+  -- and no more ticks than are already over
+  pub running : panel .running .0 ≤ 65536
+  pub gap : panel .gap .0 ≤ 65536
+
 -- the phases that have a view
 abbrev pub hasView : Phase → Bool
 hasView Off = false
@@ -105,6 +114,8 @@ pub record Sound (station : Station) : Type 0 where
   pub list : Listed (station .own .number) (station .members)
   -- an off station lists nobody
   pub empty : isOff (station .phase) ≡ true → (number : ℕ) → isListed (station .members) number ≡ false
+  -- our number is at most 254, 0 where we were never started
+  pub number : station .own .number ≤ 254
   -- while we are not off, our number is 1 to 254, our watch time 1 to 255, and our areas are in range
   pub ours : isOff (station .phase) ≡ false → Ours (station .own)
   -- at most three rounds are counted
@@ -117,6 +128,8 @@ pub record Sound (station : Station) : Type 0 where
   pub unwaited : eqb (station .rounds) 3 ≡ false → station .waited .0 ≡ 0
   -- the view is 1 to 254 in joining, where it is the last token destination heard, and in participating
   pub view : hasView (station .phase) ≡ true → isStation (station .view) ≡ true
+  -- it is 0 in the others
+  pub unseen : hasView (station .phase) ≡ false → station .view ≡ 0
   -- the place in the turn is within its blocks
   pub place : station .block < blocksOf (station .own .areas)
   -- nothing of a turn is sent while we do not hold
@@ -125,3 +138,5 @@ pub record Sound (station : Station) : Type 0 where
   pub gathering : eqb (station .gathering .source) 0 ≡ false → Placed (station .members) (station .gathering)
   -- only a participant gathers
   pub ungathered : isParticipating (station .phase) ≡ false → station .gathering .source ≡ 0
+  -- the panel's counts stay within what it shows
+  pub panel : Shown (station .panel)

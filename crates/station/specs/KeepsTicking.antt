@@ -1,131 +1,29 @@
--- Start, stop and a tick keep what holds in every state. Assumes nothing.
+-- A tick keeps what holds in every state. Assumes nothing.
 use mathlib.Core.Path.{_≡_, refl, sym, _∙_}
-use mathlib.Core.Bool.{Bool, true, false, cond, not, _&&_, false≢true}
+use mathlib.Core.Bool.{Bool, true, false, cond, _&&_, false≢true}
 use mathlib.Core.List.{List, [], _∷_}
 use Prim.Native.Nat.{ℕ, _+_, _≤_, _<_, min}
 use native.Mathlib.Omega.{arith}
 use lib.Dec.{eqb, leb, ltb}
-use borrow.Author.Tests.{leb-false, ltb-true, eqb-false}
-use Rattle.laws.specs.Tests.{first, second}
-use Rattle.area.specs.Areas.{inRange}
-use Rattle.block.specs.Blocks.{blocksOf}
-use Rattle.frame.specs.declared.Refusal.{Refusal}
-use Rattle.frame.specs.declared.Refusal.the-variants as refusals
+use borrow.Author.Tests.{leb-false, eqb-false}
 use Rattle.members.specs.Listing.{bare, overlapsListed}
 use Rattle.members.specs.Members.{nobody, isListed, numbersOf, strikes, missed, struck, entryOf, withEntry, missesSet, smallest, nextAfter}
 use Rattle.members.specs.declared.Members.{Members}
 use Rattle.panel.specs.Panel.{ticked}
 use Rattle.panel.specs.declared.Panel.{Panel}
-use Rattle.reading.specs.Reading.{isStation}
 use Rattle.units.specs.declared.Ticks.{Ticks}
 use Rattle.station.specs.Data.{without}
-use Rattle.station.specs.ListKept.{none-listed, empty-kept, missed-kept, next-station, smallest-station, bare-range, placed-with, placed-misses}
-use Rattle.station.specs.Reachable.{TypedSettings, Ours, Listed, Placed, hasView, limitOf, Sound}
-use Rattle.station.specs.Starting.{Switching, need, startOf, stopOf, startedUp}
-use Rattle.station.specs.State.{isOff, isParticipating, nothing, fresh, begun}
+use Rattle.station.specs.KeepsStarting.{ticked-shown, listening-sound, begun-sound, restarted-sound}
+use Rattle.station.specs.ListKept.{missed-kept, next-station, smallest-station, bare-range, placed-with, placed-misses}
+use Rattle.station.specs.Reachable.{Ours, Listed, Placed, Shown, limitOf, Sound}
+use Rattle.station.specs.Starting.{startedUp}
+use Rattle.station.specs.State.{isParticipating, nothing, fresh}
 use Rattle.station.specs.Ticking.{later, counted, fallsDue, startupTick, joiningWait, joiningTick, watchEnded, watchEnds, participantTick, tickedBy, tickOf}
-use Rattle.station.specs.Token.{restarted}
 use Rattle.station.specs.Waits.{detectionWait, acceptanceTime, numberWait, listeningTime, watchTicks}
-use Rattle.station.specs.declared.Gathering.{Gathering}
 use Rattle.station.specs.declared.Phase.{Phase}
 use Rattle.station.specs.declared.Phase.the-variants.{Off, Listening, Startup, Joining, Participating}
 use Rattle.station.specs.declared.Settings.{Settings}
 use Rattle.station.specs.declared.Station.{Station}
-
--- a phase that begins with an empty list
-pub fresh-sound : (phase : Phase) (own : Settings) → 0 < limitOf phase (own .number) (own .watch) → hasView phase ≡ false → (isOff phase ≡ false → Ours own)
-    → Sound (fresh phase own)
-fresh-sound phase own some blind ours = record {
-  list = empty-kept (own .number);
-  empty = λ e. none-listed;
-  ours = ours;
-  rounds = omega arith;
-  elapsed = some;
-  waited = omega arith;
-  unwaited = λ e. refl;
-  view = λ e. absurd (false≢true (sym blind ∙ e));
-  place = omega arith;
-  unheld = λ e. refl;
-  gathering = λ e. absurd (false≢true (sym e));
-  ungathered = λ e. refl;
-}
-
-pub off-sound : (own : Settings) → Sound (fresh Off own)
-off-sound own = fresh-sound Off own (omega arith) refl (λ e. absurd (false≢true (sym e)))
-
-pub listening-sound : (own : Settings) → Ours own → Sound (fresh Listening own)
-listening-sound own ours = fresh-sound Listening own (omega arith) refl (λ e. ours)
-
-pub startup-sound : (own : Settings) → Ours own → Sound (fresh Startup own)
-startup-sound own ours = fresh-sound Startup own (omega arith) refl (λ e. ours)
-
--- a test that refuses alters nothing
-need-sound : (test : Bool) (refusal : Refusal) (station : Station) (rest : Switching) → Sound station → (test ≡ true → Sound (rest .station))
-    → Sound (need test refusal station rest .station)
-need-sound true refusal station rest ok more = more refl
-need-sound false refusal station rest ok more = ok
-
-pub start-sound : (station : Station) (own : Settings) → TypedSettings own → Sound station → Sound (startOf station own .station)
-start-sound station own typed ok =
-    need-sound (isOff (station .phase)) refusals.NotDue station _ ok (λ a.
-    need-sound (isStation (own .number) && ltb 0 (own .watch .0)) refusals.Address station _ ok (λ b.
-    need-sound (inRange (own .areas)) refusals.Area station _ ok (λ c.
-    let some = ltb-true 0 (own .watch .0) (second (isStation (own .number)) (ltb 0 (own .watch .0)) b) in
-    let small = typed .watch in
-    listening-sound own (record {
-      number = first (isStation (own .number)) (ltb 0 (own .watch .0)) b;
-      watch-from = omega arith;
-      watch-to = omega arith;
-      areas = c;
-    }))))
-
-pub stop-sound : (station : Station) → Sound station → Sound (stopOf station .station)
-stop-sound station ok = need-sound (not (isOff (station .phase))) refusals.NotDue station _ ok (λ a. off-sound _)
-
--- we begin to participate
-pub begun-sound : (own : Settings) (members : Members) (view : ℕ) → Ours own → Listed (own .number) members → isStation view ≡ true
-    → Sound (begun own members view)
-begun-sound own members view ours list seen =
-    let some = ours .watch-from in
-    record {
-      list = list;
-      empty = λ e. absurd (false≢true e);
-      ours = λ e. ours;
-      rounds = omega arith;
-      elapsed = omega arith;
-      waited = omega arith;
-      unwaited = λ e. refl;
-      view = λ e. seen;
-      place = omega arith;
-      unheld = λ e. refl;
-      gathering = λ e. absurd (false≢true (sym e));
-      ungathered = λ e. refl;
-    }
-
--- a participant whose watch restarts
-pub restarted-sound : (station : Station) (members : Members) (view : ℕ) (gathering : Gathering) (panel : Panel) → Sound station → Ours (station .own)
-    → Listed (station .own .number) members → isStation view ≡ true → (eqb (gathering .source) 0 ≡ false → Placed members gathering)
-    → Sound (restarted station members view gathering panel)
-restarted-sound station members view gathering panel ok ours list seen placed =
-    let some = ours .watch-from in
-    record {
-      list = list;
-      empty = λ e. absurd (false≢true e);
-      ours = λ e. ours;
-      rounds = ok .rounds;
-      elapsed = omega arith;
-      waited = ok .waited;
-      unwaited = ok .unwaited;
-      view = λ e. seen;
-      place = by (eqb view (station .own .number));
-      unheld = λ e. rw e;
-      gathering = placed;
-      ungathered = λ e. absurd (false≢true (sym e));
-    }
-  where
-    by : (test : Bool) → cond test (station .block) 0 < blocksOf (station .own .areas)
-    by true = ok .place
-    by false = omega arith
 
 -- our own settings with both sizes 0
 abbrev bared : Settings → Settings
@@ -134,21 +32,24 @@ bared own = record { number = own .number; areas = bare (own .areas); watch = ow
 -- other counts of ticks, and our sizes 0 or not
 module _ (station : Station) (elapsed waited : Ticks) (panel : Panel) (ok : Sound station)
     (below : elapsed .0 < limitOf (station .phase) (station .own .number) (station .own .watch))
-    (most : waited .0 ≤ numberWait (station .own .number)) (early : eqb (station .rounds) 3 ≡ false → waited .0 ≡ 0) where
+    (most : waited .0 ≤ numberWait (station .own .number)) (early : eqb (station .rounds) 3 ≡ false → waited .0 ≡ 0) (shown : Shown panel) where
   counted-sound : Sound (counted station (station .own) elapsed waited panel)
   counted-sound = record {
     list = ok .list;
     empty = ok .empty;
+    number = ok .number;
     ours = ok .ours;
     rounds = ok .rounds;
     elapsed = below;
     waited = most;
     unwaited = early;
     view = ok .view;
+    unseen = ok .unseen;
     place = ok .place;
     unheld = ok .unheld;
     gathering = ok .gathering;
     ungathered = ok .ungathered;
+    panel = shown;
   }
 
   bared-sound : isParticipating (station .phase) ≡ false → Sound (counted station (bared (station .own)) elapsed waited panel)
@@ -157,6 +58,7 @@ module _ (station : Station) (elapsed waited : Ticks) (panel : Panel) (ok : Soun
       record {
         list = ok .list;
         empty = ok .empty;
+        number = ok .number;
         ours = λ e. let ours = ok .ours e in record {
           number = ours .number;
           watch-from = ours .watch-from;
@@ -168,10 +70,12 @@ module _ (station : Station) (elapsed waited : Ticks) (panel : Panel) (ok : Soun
         waited = most;
         unwaited = early;
         view = ok .view;
+        unseen = ok .unseen;
         place = omega arith;
         unheld = ok .unheld;
         gathering = ok .gathering;
         ungathered = ok .ungathered;
+        panel = shown;
       }
 
   due-sound : isParticipating (station .phase) ≡ false → (falls overlaps : Bool)
@@ -204,7 +108,7 @@ module _ (station : Station) (ok : Sound station) where
       by true t = started-sound (station .own) (station .members) (numbersOf (station .members)) ours (ok .list)
       by false t =
           falls-sound station (later acceptanceTime (station .elapsed)) (station .waited) (station .panel) ok
-          (rw e (leb-false acceptanceTime (min acceptanceTime (station .elapsed .0 + 1)) t)) (ok .waited) (ok .unwaited) (rw e)
+          (rw e (leb-false acceptanceTime (min acceptanceTime (station .elapsed .0 + 1)) t)) (ok .waited) (ok .unwaited) (ok .panel) (rw e)
           (station .elapsed) (later acceptanceTime (station .elapsed))
 
   joining-tick : station .phase ≡ Joining → Sound (joiningTick station (later detectionWait (station .elapsed)))
@@ -217,11 +121,11 @@ module _ (station : Station) (ok : Sound station) where
       by true t third r = listening-sound (station .own) (ok .ours (rw e))
       by false t true r =
           falls-sound station (later detectionWait (station .elapsed)) (later (numberWait (station .own .number)) (station .waited)) (station .panel) ok
-          (rw e (leb-false detectionWait (min detectionWait (station .elapsed .0 + 1)) t)) (omega arith) (λ z. absurd (false≢true (sym z ∙ r))) (rw e)
+          (rw e (leb-false detectionWait (min detectionWait (station .elapsed .0 + 1)) t)) (omega arith) (λ z. absurd (false≢true (sym z ∙ r))) (ok .panel) (rw e)
           (station .waited) (later (numberWait (station .own .number)) (station .waited))
       by false t false r =
           falls-sound station (later detectionWait (station .elapsed)) (station .waited) (station .panel) ok
-          (rw e (leb-false detectionWait (min detectionWait (station .elapsed .0 + 1)) t)) (ok .waited) (ok .unwaited) (rw e) (station .waited) (station .waited)
+          (rw e (leb-false detectionWait (min detectionWait (station .elapsed .0 + 1)) t)) (ok .waited) (ok .unwaited) (ok .panel) (rw e) (station .waited) (station .waited)
 
   -- what was gathered when the watch ends
   struck-placed : (listed strike same : Bool) → eqb (station .view) (station .gathering .source) ≡ same
@@ -261,15 +165,16 @@ module _ (station : Station) (ok : Sound station) where
           (next-station (ok .list) (station .view) (ours .number) (ok .view (rw e)))
           (struck-placed (isListed (station .members) (station .view)) (strikes (station .members) (station .view))
           (eqb (station .view) (station .gathering .source)) refl)
+          (ticked-shown (ok .panel))
       by false t =
           let more = leb-false (watchTicks (station .own .watch)) (station .elapsed .0 + 1) t in
-          counted-sound station (later 2550 (station .elapsed)) (station .waited) (ticked (station .panel)) ok (rw e (omega arith)) (ok .waited) (ok .unwaited)
+          counted-sound station (later 2550 (station .elapsed)) (station .waited) (ticked (station .panel)) ok (rw e (omega arith)) (ok .waited) (ok .unwaited) (ticked-shown (ok .panel))
 
   tick-in : (phase : Phase) → station .phase ≡ phase → Sound (tickedBy phase station)
   tick-in Off e = ok
   tick-in Listening e =
       counted-sound station (later (listeningTime (station .own .number)) (station .elapsed)) (station .waited) (station .panel) ok
-      (rw e (omega arith)) (ok .waited) (ok .unwaited)
+      (rw e (omega arith)) (ok .waited) (ok .unwaited) (ok .panel)
   tick-in Startup e = startup-tick e
   tick-in Joining e = joining-tick e
   tick-in Participating e = participant-tick e
