@@ -22,3 +22,14 @@ pub mod PanelHeard
 pub mod PanelAsked
 pub mod PanelIsGap
 pub mod PanelCases
+-- What holds in every state that calls can leave.
+pub mod Reachable
+pub mod ListKept
+pub mod KeepsStarting
+pub mod KeepsTicking
+pub mod KeepsEntering
+pub mod KeepsHearing
+pub mod KeepsAsking
+pub mod Apart
+pub mod ApartTicking
+pub mod ApartHearing

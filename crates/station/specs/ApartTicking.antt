@@ -1,0 +1,141 @@
+-- Start, stop and a tick keep the areas apart. Assumes nothing.
+use mathlib.Core.Path.{_≡_, refl, sym, _∙_}
+use mathlib.Core.Bool.{Bool, true, false, cond, not, _&&_, false≢true}
+use mathlib.Core.List.{List, [], _∷_}
+use Prim.Native.Nat.{ℕ, _+_, _≤_, min}
+use native.Mathlib.Omega.{arith}
+use lib.Dec.{eqb, leb, ltb}
+use borrow.Author.Tests.{leb-true, ltb-false, le-leb}
+use Rattle.laws.specs.Tests.{both, first, second}
+use Rattle.area.specs.Areas.{inRange}
+use Rattle.frame.specs.declared.Refusal.{Refusal}
+use Rattle.frame.specs.declared.Refusal.the-variants as refusals
+use Rattle.members.specs.Listing.{bare, overlapsListed}
+use Rattle.members.specs.Members.{numbersOf}
+use Rattle.panel.specs.Panel.{ticked}
+use Rattle.panel.specs.declared.Panel.{Panel}
+use Rattle.reading.specs.Reading.{isStation}
+use Rattle.units.specs.declared.Ticks.{Ticks}
+use Rattle.station.specs.Apart.{Clear, Apart, no-overlap, disjoint-none, clear-none, disjoint-missed, clear-missed}
+use Rattle.station.specs.Reachable.{Sound}
+use Rattle.station.specs.Starting.{Switching, need, startOf, stopOf, requestFallen, startedUp}
+use Rattle.station.specs.State.{isOff, fresh}
+use Rattle.station.specs.Ticking.{later, counted, fallsDue, startupTick, joiningWait, joiningTick, watchEnded, watchEnds, participantTick, tickedBy, tickOf}
+use Rattle.station.specs.Waits.{detectionWait, acceptanceTime, numberWait}
+use Rattle.station.specs.declared.Phase.{Phase}
+use Rattle.station.specs.declared.Phase.the-variants.{Off, Listening, Startup, Joining, Participating}
+use Rattle.station.specs.declared.Settings.{Settings}
+use Rattle.station.specs.declared.Station.{Station}
+
+pub fresh-apart : (phase : Phase) (own : Settings) → Apart (fresh phase own)
+fresh-apart phase own = record { listed = disjoint-none; ours = λ e. clear-none (own .areas) }
+
+need-apart : (test : Bool) (refusal : Refusal) (station : Station) (rest : Switching) → Apart station → Apart (rest .station)
+    → Apart (need test refusal station rest .station)
+need-apart true refusal station rest apart more = more
+need-apart false refusal station rest apart more = apart
+
+pub start-apart : (station : Station) (own : Settings) → Apart station → Apart (startOf station own .station)
+start-apart station own apart =
+    need-apart (isOff (station .phase)) refusals.NotDue station _ apart
+    (need-apart (isStation (own .number) && ltb 0 (own .watch .0)) refusals.Address station _ apart
+    (need-apart (inRange (own .areas)) refusals.Area station _ apart (fresh-apart Listening own)))
+
+pub stop-apart : (station : Station) → Apart station → Apart (stopOf station .station)
+stop-apart station apart = need-apart (not (isOff (station .phase))) refusals.NotDue station _ apart (fresh-apart Off _)
+
+-- numbers 1 to 254
+pub station-from : (number : ℕ) → isStation number ≡ true → 1 ≤ number
+station-from number e = leb-true 1 number (first (leb 1 number) (leb number 254) e)
+
+pub station-to : (number : ℕ) → isStation number ≡ true → number ≤ 254
+station-to number e = leb-true number 254 (second (leb 1 number) (leb number 254) e)
+
+module _ (station : Station) (ok : Sound station) (apart : Apart station) where
+  -- our own settings with both sizes 0
+  abbrev bared : Settings
+  bared = record { number = station .own .number; areas = bare (station .own .areas); watch = station .own .watch }
+
+  -- a tick in which our request may fall due
+  module _ (elapsed waited : Ticks) (panel : Panel) (from to : Ticks)
+      (falls : requestFallen (station .phase) (counted station (station .own) elapsed waited panel) ≡ true
+      → leb (numberWait (station .own .number)) (to .0) ≡ true)
+      (fell : requestFallen (station .phase) (counted station (station .own) elapsed waited panel) ≡ true
+      → leb (numberWait (station .own .number)) (from .0) ≡ true → requestFallen (station .phase) station ≡ true) where
+    due-apart : (unfallen ends overlaps : Bool) → ltb (from .0) (numberWait (station .own .number)) ≡ unfallen
+        → leb (numberWait (station .own .number)) (to .0) ≡ ends → overlapsListed (station .members) (station .own .areas) ≡ overlaps
+        → Apart (counted station (cond (unfallen && ends) (cond overlaps bared (station .own)) (station .own)) elapsed waited panel)
+    due-apart true true true u t o = record { listed = apart .listed; ours = λ z n l. refl }
+    due-apart true true false u t o = record {
+      listed = apart .listed;
+      ours = λ z n l. no-overlap (station .members) 0 (station .own .areas) o n
+          (λ q. let some = station-from n (ok .list .each n l .station) in omega arith) l;
+    }
+    due-apart true false overlaps u t o = record { listed = apart .listed; ours = λ z. absurd (false≢true (sym t ∙ falls z)) }
+    due-apart false ends overlaps u t o = record {
+      listed = apart .listed;
+      ours = λ z. apart .ours (fell z (le-leb _ _ (ltb-false (from .0) (numberWait (station .own .number)) u)));
+    }
+
+    falls-apart : Apart (counted station (fallsDue station from to) elapsed waited panel)
+    falls-apart =
+        due-apart (ltb (from .0) (numberWait (station .own .number))) (leb (numberWait (station .own .number)) (to .0))
+        (overlapsListed (station .members) (station .own .areas)) refl refl refl
+
+  started-apart : (numbers : List ℕ) → requestFallen (station .phase) station ≡ true → Apart (startedUp (station .own) (station .members) numbers)
+  started-apart [] fallen = fresh-apart Listening (station .own)
+  started-apart (number ∷ rest) fallen = record { listed = apart .listed; ours = λ z. apart .ours fallen }
+
+  startup-tick : station .phase ≡ Startup → Apart (startupTick station (later acceptanceTime (station .elapsed)))
+  startup-tick e = by (leb acceptanceTime (min acceptanceTime (station .elapsed .0 + 1))) refl
+    where
+      by : (test : Bool) → leb acceptanceTime (min acceptanceTime (station .elapsed .0 + 1)) ≡ test → Apart
+          (cond test
+          (startedUp (station .own) (station .members) (numbersOf (station .members)))
+          (counted station (fallsDue station (station .elapsed) (later acceptanceTime (station .elapsed))) (later acceptanceTime (station .elapsed)) (station .waited) (station .panel)))
+      by true t =
+          let long = leb-true acceptanceTime (min acceptanceTime (station .elapsed .0 + 1)) t in
+          let small = station-to (station .own .number) (ok .ours (rw e) .number) in
+          let come : numberWait (station .own .number) ≤ station .elapsed .0 = omega arith in
+          started-apart (numbersOf (station .members)) (rw e (le-leb _ _ come))
+      by false t =
+          falls-apart (later acceptanceTime (station .elapsed)) (station .waited) (station .panel) (station .elapsed) (later acceptanceTime (station .elapsed))
+          (λ z. rw e at z) (λ z f. rw e f)
+
+  joining-tick : station .phase ≡ Joining → Apart (joiningTick station (later detectionWait (station .elapsed)))
+  joining-tick e = by (leb detectionWait (min detectionWait (station .elapsed .0 + 1)))
+      (cond (eqb (station .rounds) 3) (later (numberWait (station .own .number)) (station .waited)) (station .waited))
+    where
+      by : (test : Bool) (waited : Ticks) → Apart
+          (cond test (fresh Listening (station .own)) (joiningWait station (later detectionWait (station .elapsed)) waited))
+      by true waited = fresh-apart Listening (station .own)
+      by false waited =
+          falls-apart (later detectionWait (station .elapsed)) waited (station .panel) (station .waited) waited
+          (λ z. second (eqb (station .rounds) 3) (leb (numberWait (station .own .number)) (waited .0)) (rw e at z))
+          (λ z f. rw e (both (first (eqb (station .rounds) 3) (leb (numberWait (station .own .number)) (waited .0)) (rw e at z)) f))
+
+  participant-tick : station .phase ≡ Participating → Apart (participantTick station (later 2550 (station .elapsed)))
+  participant-tick e = by (watchEnds station)
+    where
+      clear : Clear (station .own .areas) (station .members)
+      clear = apart .ours (rw e)
+
+      by : (test : Bool) → Apart
+          (cond test
+          (watchEnded station)
+          (counted station (station .own) (later 2550 (station .elapsed)) (station .waited) (ticked (station .panel))))
+      by true = record {
+        listed = disjoint-missed (station .members) (station .view) (apart .listed);
+        ours = λ z. clear-missed (station .members) (station .view) (station .own .areas) clear;
+      }
+      by false = record { listed = apart .listed; ours = λ z. clear }
+
+  tick-in : (phase : Phase) → station .phase ≡ phase → Apart (tickedBy phase station)
+  tick-in Off e = apart
+  tick-in Listening e = record { listed = apart .listed; ours = λ z. absurd (false≢true (rw e at z)) }
+  tick-in Startup e = startup-tick e
+  tick-in Joining e = joining-tick e
+  tick-in Participating e = participant-tick e
+
+  pub tick-apart : Apart (tickOf station .station)
+  tick-apart = tick-in (station .phase) refl

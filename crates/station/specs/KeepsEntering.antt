@@ -1,0 +1,202 @@
+-- What a frame that is not refused keeps, but for a participant's data. Assumes nothing.
+use mathlib.Core.Path.{_≡_, refl, sym, ap, _∙_}
+use mathlib.Core.Bool.{Bool, true, false, cond, _&&_, false≢true}
+use mathlib.Core.List.{List}
+use Prim.Native.Nat.{ℕ, _+_, _≤_, _<_, min}
+use native.Mathlib.Omega.{arith}
+use lib.Dec.{eqb, leb, ltb}
+use lib.ListN.{getD}
+use borrow.Author.Tests.{leb-true, le-leb, eqb-true, eqb-false, ne-eqb}
+use Rattle.laws.specs.Tests.{both, first, second}
+use Rattle.area.specs.Areas.{inRange}
+use Rattle.area.specs.declared.Areas.{Areas}
+use Rattle.block.specs.Blocks.{blocksOf}
+use Rattle.frame.specs.Codes.{isToken, isCyclic, carriesAreas}
+use Rattle.frame.specs.Positions.{TW}
+use Rattle.frame.specs.declared.Code.{Code}
+use Rattle.frame.specs.declared.Code.the-variants.{Token, Cyclic, Request, Trigger}
+use Rattle.frame.specs.declared.Fields.{Fields}
+use Rattle.members.specs.Listing.{listing}
+use Rattle.reading.specs.Reading.{isStation, fieldsOf}
+use Rattle.round_trip.specs.Accepted.{Accepted}
+use Rattle.round_trip.specs.Shown.{source-is, destination-is, areas-are, block-is}
+use Rattle.writing.specs.Writing.{noAreas}
+use Rattle.station.specs.Data.{sameAreas}
+use Rattle.station.specs.Hearing.{requested, enters}
+use Rattle.station.specs.KeepsStarting.{blank-shown, number-to, startup-sound}
+use Rattle.station.specs.ListKept.{empty-kept, listing-kept, placed-with}
+use Rattle.station.specs.Reachable.{Ours, Listed, Placed, Shown, Sound}
+use Rattle.station.specs.Starting.{oursDue, endsRound, joinedBy}
+use Rattle.station.specs.State.{isOff, isParticipating, nothing, noTicks, fresh}
+use Rattle.station.specs.Token.{viewHeard}
+use Rattle.station.specs.Waits.{detectionWait, numberWait}
+use Rattle.station.specs.declared.Phase.{Phase}
+use Rattle.station.specs.declared.Phase.the-variants.{Off, Listening, Startup, Joining, Participating}
+use Rattle.station.specs.declared.Station.{Station}
+
+-- a frame that came through 1 to 5, 7 and 8
+pub record Fit (frame : Fields) : Type 0 where
+  pub source : isStation (frame .source) ≡ true
+  pub destination : isToken (frame .code) ≡ true → isStation (frame .destination) ≡ true
+  pub areas : carriesAreas (frame .code) ≡ true → inRange (frame .areas) ≡ true
+  pub total : isCyclic (frame .code) ≡ true → frame .blocks ≡ blocksOf (frame .areas)
+  pub last : isCyclic (frame .code) ≡ true → frame .block ≤ frame .blocks
+  pub watch : frame .watch .0 ≤ 255
+
+watch-small : (octets : List ℕ) (frame : Fields) → ((at : ℕ) → getD octets at 0 < 256) → Accepted octets frame → frame .watch .0 ≤ 255
+unfolding fieldsOf
+watch-small octets frame typed a =
+    let same : getD octets TW 0 ≡ frame .watch .0 = ap (λ (f : Fields). f .watch .0) (a .holds) in
+    let small = typed TW in
+    omega arith
+
+pub fit : (octets : List ℕ) (frame : Fields) → ((at : ℕ) → getD octets at 0 < 256) → Accepted octets frame → Fit frame
+fit octets frame typed a = record {
+  source = source-is a;
+  destination = destination-is a;
+  areas = areas-are a;
+  total = λ e. block-is a e .total;
+  last = λ e. block-is a e .to;
+  watch = watch-small octets frame typed a;
+}
+
+-- what joining reads
+module _ (station : Station) (frame : Fields) (fits : Fit frame) where
+  joined-sound : Ours (station .own) → Listed (station .own .number) (station .members) → station .rounds ≤ 3 → station .elapsed .0 < detectionWait
+      → station .waited .0 ≤ numberWait (station .own .number) → (eqb (station .rounds) 3 ≡ false → station .waited .0 ≡ 0)
+      → (isToken (frame .code) ≡ false → isStation (station .view) ≡ true) → station .gathering .source ≡ 0
+      → eqb (frame .source) (station .own .number) ≡ false → carriesAreas (frame .code) ≡ true → Shown (station .panel)
+      → Sound (joinedBy station frame)
+  joined-sound ours list three below most early seen none other carries shown = record {
+    list = listed (ltb (station .rounds) 3);
+    empty = λ e. absurd (false≢true e);
+    number = number-to (station .own) ours;
+    ours = λ e. ours;
+    rounds = counted (endsRound frame);
+    elapsed = ticks (isToken (frame .code));
+    waited = most;
+    unwaited = unwaited (endsRound frame);
+    view = λ e. view (isToken (frame .code)) refl;
+    unseen = λ e. absurd (false≢true (sym e));
+    place = omega arith;
+    unheld = λ e. refl;
+    gathering = λ e. absurd (eqb-false (station .gathering .source) 0 e none);
+    ungathered = λ e. none;
+    panel = shown;
+  }
+    where
+      listed : (test : Bool) → Listed (station .own .number)
+          (cond test (listing (station .members) (frame .source) (frame .areas) (frame .watch) noAreas) (station .members))
+      listed true = listing-kept (frame .source) (frame .areas) (frame .watch) noAreas list (fits .source) other (fits .areas carries) (fits .watch)
+      listed false = list
+
+      counted : (test : Bool) → cond test (min 3 (station .rounds + 1)) (station .rounds) ≤ 3
+      counted true = omega arith
+      counted false = three
+
+      ticks : (test : Bool) → cond test noTicks (station .elapsed) .0 < detectionWait
+      ticks true = omega arith
+      ticks false = below
+
+      unwaited : (test : Bool) → eqb (cond test (min 3 (station .rounds + 1)) (station .rounds)) 3 ≡ false → station .waited .0 ≡ 0
+      unwaited true e = early (ne-eqb (station .rounds) 3 (λ q. eqb-false (min 3 (station .rounds + 1)) 3 e (omega arith)))
+      unwaited false e = early e
+
+      view : (test : Bool) → isToken (frame .code) ≡ test → isStation (cond test (frame .destination) (station .view)) ≡ true
+      view true e = fits .destination e
+      view false e = seen e
+
+-- the smaller of two stations' numbers
+min-station : (a b : ℕ) → isStation a ≡ true → isStation b ≡ true → isStation (min a b) ≡ true
+min-station a b p q =
+    let a1 = leb-true 1 a (first (leb 1 a) (leb a 254) p) in
+    let a2 = leb-true a 254 (second (leb 1 a) (leb a 254) p) in
+    let b1 = leb-true 1 b (first (leb 1 b) (leb b 254) q) in
+    let b2 = leb-true b 254 (second (leb 1 b) (leb b 254) q) in
+    let m1 : 1 ≤ min a b = omega arith in
+    let m2 : min a b ≤ 254 = omega arith in
+    both (le-leb 1 (min a b) m1) (le-leb (min a b) 254 m2)
+
+-- the same sizes make the same blocks
+pub same-blocks : (a b : Areas) → sameAreas a b ≡ true → blocksOf a ≡ blocksOf b
+same-blocks a b e =
+    let one = first (eqb (a .one .address) (b .one .address) && eqb (a .one .size) (b .one .size)) (eqb (a .two .address) (b .two .address) && eqb (a .two .size) (b .two .size)) e in
+    let two = second (eqb (a .one .address) (b .one .address) && eqb (a .one .size) (b .one .size)) (eqb (a .two .address) (b .two .address) && eqb (a .two .size) (b .two .size)) e in
+    let p = eqb-true (a .one .size) (b .one .size) (second (eqb (a .one .address) (b .one .address)) (eqb (a .one .size) (b .one .size)) one) in
+    let q = eqb-true (a .two .size) (b .two .size) (second (eqb (a .two .address) (b .two .address)) (eqb (a .two .size) (b .two .size)) two) in
+    rw (p, q)
+
+-- a frame of another station, heard by a station that is not off
+module _ (station : Station) (frame : Fields) (ok : Sound station) (fits : Fit frame) (on : isOff (station .phase) ≡ false)
+    (other : eqb (frame .source) (station .own .number) ≡ false) where
+  -- a first token frame begins joining
+  enters-joining : frame .code ≡ Token → Sound (joinedBy (fresh Joining (station .own)) frame)
+  enters-joining c =
+      joined-sound (fresh Joining (station .own)) frame fits (ok .ours on) (empty-kept (station .own .number)) (omega arith) (omega arith) (omega arith)
+      (λ e. refl) (λ e. absurd (false≢true (sym e ∙ rw c))) refl other (rw c) blank-shown
+
+  goes-on-joining : station .phase ≡ Joining → carriesAreas (frame .code) ≡ true → Sound (joinedBy station frame)
+  goes-on-joining e carries =
+      joined-sound station frame fits (ok .ours on) (ok .list) (ok .rounds) (rw e at (ok .elapsed)) (ok .waited)
+      (ok .unwaited) (λ t. ok .view (rw e)) (ok .ungathered (rw e)) other carries (ok .panel)
+
+  -- a request that is listed
+  requested-sound : carriesAreas (frame .code) ≡ true → Sound (requested station frame)
+  requested-sound carries = record {
+    list = listing-kept (frame .source) (frame .areas) (frame .watch) (oursDue station) (ok .list) (fits .source) other (fits .areas carries) (fits .watch);
+    empty = λ e. absurd (false≢true (sym on ∙ e));
+    number = ok .number;
+    ours = ok .ours;
+    rounds = ok .rounds;
+    elapsed = ok .elapsed;
+    waited = ok .waited;
+    unwaited = ok .unwaited;
+    view = ok .view;
+    unseen = ok .unseen;
+    place = ok .place;
+    unheld = ok .unheld;
+    gathering = placed (eqb (frame .source) (station .gathering .source)) refl;
+    ungathered = λ e. none e (eqb (frame .source) (station .gathering .source));
+    panel = ok .panel;
+  }
+    where
+      placed : (same : Bool) → eqb (frame .source) (station .gathering .source) ≡ same
+          → eqb (cond same nothing (station .gathering) .source) 0 ≡ false
+          → Placed (listing (station .members) (frame .source) (frame .areas) (frame .watch) (oursDue station)) (cond same nothing (station .gathering))
+      placed true s e = absurd (false≢true (sym e))
+      placed false s e =
+          placed-with (ok .gathering e) (frame .source) _ (λ q. absurd (eqb-false (frame .source) (station .gathering .source) s (sym q)))
+
+      none : isParticipating (station .phase) ≡ false → (same : Bool) → cond same nothing (station .gathering) .source ≡ 0
+      none e true = refl
+      none e false = ok .ungathered e
+
+  -- a frame that a participant does not take as a cyclic one
+  pub enters-sound : (phase : Phase) (code : Code) → station .phase ≡ phase → frame .code ≡ code → Sound (enters phase code station frame)
+  enters-sound Off code e c = ok
+  enters-sound Listening Token e c = enters-joining c
+  enters-sound Listening Cyclic e c = ok
+  enters-sound Listening Request e c = ok
+  enters-sound Listening Trigger e c = startup-sound (station .own) (ok .ours on)
+  enters-sound Startup Token e c = enters-joining c
+  enters-sound Startup Cyclic e c = ok
+  enters-sound Startup Request e c = requested-sound (rw c)
+  enters-sound Startup Trigger e c = ok
+  enters-sound Joining Token e c = goes-on-joining e (rw c)
+  enters-sound Joining Cyclic e c = goes-on-joining e (rw c)
+  enters-sound Joining Request e c = ok
+  enters-sound Joining Trigger e c = ok
+  enters-sound Participating Token e c = ok
+  enters-sound Participating Cyclic e c = ok
+  enters-sound Participating Request e c = requested-sound (rw c)
+  enters-sound Participating Trigger e c = ok
+
+  -- the view after a token frame
+  pub view-station : isStation (station .view) ≡ true → isStation (viewHeard (station .view) frame) ≡ true
+  view-station seen = by (isToken (frame .code)) refl (eqb (frame .source) (station .view))
+    where
+      by : (token : Bool) → isToken (frame .code) ≡ token → (same : Bool)
+          → isStation (cond token (cond same (frame .destination) (min (station .view) (frame .destination))) (station .view)) ≡ true
+      by true t true = fits .destination t
+      by true t false = min-station (station .view) (frame .destination) seen (fits .destination t)
+      by false t same = seen

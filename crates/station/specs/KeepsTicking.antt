@@ -1,0 +1,183 @@
+-- A tick keeps what holds in every state. Assumes nothing.
+use mathlib.Core.Path.{_≡_, refl, sym, _∙_}
+use mathlib.Core.Bool.{Bool, true, false, cond, _&&_, false≢true}
+use mathlib.Core.List.{List, [], _∷_}
+use Prim.Native.Nat.{ℕ, _+_, _≤_, _<_, min}
+use native.Mathlib.Omega.{arith}
+use lib.Dec.{eqb, leb, ltb}
+use borrow.Author.Tests.{leb-false, eqb-false}
+use Rattle.members.specs.Listing.{bare, overlapsListed}
+use Rattle.members.specs.Members.{nobody, isListed, numbersOf, strikes, missed, struck, entryOf, withEntry, missesSet, smallest, nextAfter}
+use Rattle.members.specs.declared.Members.{Members}
+use Rattle.panel.specs.Panel.{ticked}
+use Rattle.panel.specs.declared.Panel.{Panel}
+use Rattle.units.specs.declared.Ticks.{Ticks}
+use Rattle.station.specs.Data.{without}
+use Rattle.station.specs.KeepsStarting.{ticked-shown, listening-sound, begun-sound, restarted-sound}
+use Rattle.station.specs.ListKept.{missed-kept, next-station, smallest-station, bare-range, placed-with, placed-misses}
+use Rattle.station.specs.Reachable.{Ours, Listed, Placed, Shown, limitOf, Sound}
+use Rattle.station.specs.Starting.{startedUp}
+use Rattle.station.specs.State.{isParticipating, nothing, fresh}
+use Rattle.station.specs.Ticking.{later, counted, fallsDue, startupTick, joiningWait, joiningTick, watchEnded, watchEnds, participantTick, tickedBy, tickOf}
+use Rattle.station.specs.Waits.{detectionWait, acceptanceTime, numberWait, listeningTime, watchTicks}
+use Rattle.station.specs.declared.Phase.{Phase}
+use Rattle.station.specs.declared.Phase.the-variants.{Off, Listening, Startup, Joining, Participating}
+use Rattle.station.specs.declared.Settings.{Settings}
+use Rattle.station.specs.declared.Station.{Station}
+
+-- our own settings with both sizes 0
+abbrev bared : Settings → Settings
+bared own = record { number = own .number; areas = bare (own .areas); watch = own .watch }
+
+-- other counts of ticks, and our sizes 0 or not
+module _ (station : Station) (elapsed waited : Ticks) (panel : Panel) (ok : Sound station)
+    (below : elapsed .0 < limitOf (station .phase) (station .own .number) (station .own .watch))
+    (most : waited .0 ≤ numberWait (station .own .number)) (early : eqb (station .rounds) 3 ≡ false → waited .0 ≡ 0) (shown : Shown panel) where
+  counted-sound : Sound (counted station (station .own) elapsed waited panel)
+  counted-sound = record {
+    list = ok .list;
+    empty = ok .empty;
+    number = ok .number;
+    ours = ok .ours;
+    rounds = ok .rounds;
+    elapsed = below;
+    waited = most;
+    unwaited = early;
+    view = ok .view;
+    unseen = ok .unseen;
+    place = ok .place;
+    unheld = ok .unheld;
+    gathering = ok .gathering;
+    ungathered = ok .ungathered;
+    panel = shown;
+  }
+
+  bared-sound : isParticipating (station .phase) ≡ false → Sound (counted station (bared (station .own)) elapsed waited panel)
+  bared-sound before =
+      let unsent : station .block ≡ 0 = ok .unheld (rw before) in
+      record {
+        list = ok .list;
+        empty = ok .empty;
+        number = ok .number;
+        ours = λ e. let ours = ok .ours e in record {
+          number = ours .number;
+          watch-from = ours .watch-from;
+          watch-to = ours .watch-to;
+          areas = bare-range (station .own .areas) (ours .areas);
+        };
+        rounds = ok .rounds;
+        elapsed = below;
+        waited = most;
+        unwaited = early;
+        view = ok .view;
+        unseen = ok .unseen;
+        place = omega arith;
+        unheld = ok .unheld;
+        gathering = ok .gathering;
+        ungathered = ok .ungathered;
+        panel = shown;
+      }
+
+  due-sound : isParticipating (station .phase) ≡ false → (falls overlaps : Bool)
+      → Sound (counted station (cond falls (cond overlaps (bared (station .own)) (station .own)) (station .own)) elapsed waited panel)
+  due-sound before true true = bared-sound before
+  due-sound before true false = counted-sound
+  due-sound before false overlaps = counted-sound
+
+  falls-sound : isParticipating (station .phase) ≡ false → (from to : Ticks) → Sound (counted station (fallsDue station from to) elapsed waited panel)
+  falls-sound before from to =
+      due-sound before (ltb (from .0) (numberWait (station .own .number)) && leb (numberWait (station .own .number)) (to .0))
+      (overlapsListed (station .members) (station .own .areas))
+
+started-sound : (own : Settings) (members : Members) (numbers : List ℕ) → Ours own → Listed (own .number) members → Sound (startedUp own members numbers)
+started-sound own members [] ours list = listening-sound own ours
+started-sound own members (number ∷ rest) ours list =
+    begun-sound own members (smallest (own .number) members) ours list (smallest-station list (ours .number))
+
+module _ (station : Station) (ok : Sound station) where
+  startup-tick : station .phase ≡ Startup → Sound (startupTick station (later acceptanceTime (station .elapsed)))
+  startup-tick e = by (leb acceptanceTime (min acceptanceTime (station .elapsed .0 + 1))) refl
+    where
+      ours : Ours (station .own)
+      ours = ok .ours (rw e)
+
+      by : (test : Bool) → leb acceptanceTime (min acceptanceTime (station .elapsed .0 + 1)) ≡ test → Sound
+          (cond test
+          (startedUp (station .own) (station .members) (numbersOf (station .members)))
+          (counted station (fallsDue station (station .elapsed) (later acceptanceTime (station .elapsed))) (later acceptanceTime (station .elapsed)) (station .waited) (station .panel)))
+      by true t = started-sound (station .own) (station .members) (numbersOf (station .members)) ours (ok .list)
+      by false t =
+          falls-sound station (later acceptanceTime (station .elapsed)) (station .waited) (station .panel) ok
+          (rw e (leb-false acceptanceTime (min acceptanceTime (station .elapsed .0 + 1)) t)) (ok .waited) (ok .unwaited) (ok .panel) (rw e)
+          (station .elapsed) (later acceptanceTime (station .elapsed))
+
+  joining-tick : station .phase ≡ Joining → Sound (joiningTick station (later detectionWait (station .elapsed)))
+  joining-tick e = by (leb detectionWait (min detectionWait (station .elapsed .0 + 1))) refl (eqb (station .rounds) 3) refl
+    where
+      by : (test : Bool) → leb detectionWait (min detectionWait (station .elapsed .0 + 1)) ≡ test → (third : Bool) → eqb (station .rounds) 3 ≡ third → Sound
+          (cond test
+          (fresh Listening (station .own))
+          (joiningWait station (later detectionWait (station .elapsed)) (cond third (later (numberWait (station .own .number)) (station .waited)) (station .waited))))
+      by true t third r = listening-sound (station .own) (ok .ours (rw e))
+      by false t true r =
+          falls-sound station (later detectionWait (station .elapsed)) (later (numberWait (station .own .number)) (station .waited)) (station .panel) ok
+          (rw e (leb-false detectionWait (min detectionWait (station .elapsed .0 + 1)) t)) (omega arith) (λ z. absurd (false≢true (sym z ∙ r))) (ok .panel) (rw e)
+          (station .waited) (later (numberWait (station .own .number)) (station .waited))
+      by false t false r =
+          falls-sound station (later detectionWait (station .elapsed)) (station .waited) (station .panel) ok
+          (rw e (leb-false detectionWait (min detectionWait (station .elapsed .0 + 1)) t)) (ok .waited) (ok .unwaited) (ok .panel) (rw e) (station .waited) (station .waited)
+
+  -- what was gathered when the watch ends
+  struck-placed : (listed strike same : Bool) → eqb (station .view) (station .gathering .source) ≡ same
+      → eqb (cond (listed && strike) (cond same nothing (station .gathering)) (station .gathering) .source) 0 ≡ false
+      → Placed
+      (cond listed
+      (cond strike
+      (struck (station .members) (station .view))
+      (withEntry (station .members) (station .view)
+      (missesSet (entryOf (station .members) (station .view) .misses + 1) (entryOf (station .members) (station .view)))))
+      (station .members))
+      (cond (listed && strike) (cond same nothing (station .gathering)) (station .gathering))
+  struck-placed true true true s e = absurd (false≢true (sym e))
+  struck-placed true true false s e =
+      placed-with (ok .gathering e) (station .view) nobody (λ same. absurd (eqb-false (station .view) (station .gathering .source) s (sym same)))
+  struck-placed true false same s e = placed-misses (ok .gathering e) (station .view) (entryOf (station .members) (station .view) .misses + 1)
+  struck-placed false strike same s e = ok .gathering e
+
+  participant-tick : station .phase ≡ Participating → Sound (participantTick station (later 2550 (station .elapsed)))
+  participant-tick e = by (watchEnds station) refl
+    where
+      ours : Ours (station .own)
+      ours = ok .ours (rw e)
+
+      by : (test : Bool) → watchEnds station ≡ test → Sound
+          (cond test
+          (watchEnded station)
+          (counted station (station .own) (later 2550 (station .elapsed)) (station .waited) (ticked (station .panel))))
+      by true t =
+          restarted-sound station (missed (station .members) (station .view))
+          (nextAfter (station .own .number) (station .members) (station .view))
+          (cond (isListed (station .members) (station .view) && strikes (station .members) (station .view))
+          (without (station .view) (station .gathering))
+          (station .gathering))
+          (ticked (station .panel)) ok ours
+          (missed-kept (ok .list) (station .view))
+          (next-station (ok .list) (station .view) (ours .number) (ok .view (rw e)))
+          (struck-placed (isListed (station .members) (station .view)) (strikes (station .members) (station .view))
+          (eqb (station .view) (station .gathering .source)) refl)
+          (ticked-shown (ok .panel))
+      by false t =
+          let more = leb-false (watchTicks (station .own .watch)) (station .elapsed .0 + 1) t in
+          counted-sound station (later 2550 (station .elapsed)) (station .waited) (ticked (station .panel)) ok (rw e (omega arith)) (ok .waited) (ok .unwaited) (ticked-shown (ok .panel))
+
+  tick-in : (phase : Phase) → station .phase ≡ phase → Sound (tickedBy phase station)
+  tick-in Off e = ok
+  tick-in Listening e =
+      counted-sound station (later (listeningTime (station .own .number)) (station .elapsed)) (station .waited) (station .panel) ok
+      (rw e (omega arith)) (ok .waited) (ok .unwaited) (ok .panel)
+  tick-in Startup e = startup-tick e
+  tick-in Joining e = joining-tick e
+  tick-in Participating e = participant-tick e
+
+  pub tick-sound : Sound (tickOf station .station)
+  tick-sound = tick-in (station .phase) refl
