@@ -8,3 +8,6 @@ pub mod Steps
 pub mod Asks
 pub mod Ticks
 pub mod Strays
+pub mod Demand
+pub mod Just
+pub mod DemandThree
