@@ -22,3 +22,4 @@ pub mod KeepsAsking
 pub mod Apart
 pub mod ApartTicking
 pub mod ApartHearing
+pub mod RingKept
