@@ -23,3 +23,4 @@ pub mod Apart
 pub mod ApartTicking
 pub mod ApartHearing
 pub mod RingKept
+pub mod Reached
