@@ -24,3 +24,5 @@ pub mod ApartTicking
 pub mod ApartHearing
 pub mod RingKept
 pub mod Reached
+pub mod ViewKept
+pub mod Seen
