@@ -7,12 +7,12 @@ use native.Mathlib.Omega.{arith}
 use lib.Dec.{eqb, leb, ltb}
 use lib.ListN.{length}
 use borrow.Author.Tests.{leb-true, ltb-true, ltb-false, eq-eqb, ne-eqb}
-use Rattle.laws.specs.Tests.{both, second}
 use Rattle.frame.specs.Codes.{isCyclic}
 use Rattle.frame.specs.declared.Code.{Code}
 use Rattle.frame.specs.declared.Code.the-variants.{Token, Cyclic, Request, Trigger}
 use Rattle.frame.specs.declared.Fields.{Fields}
 use Rattle.frame.specs.declared.Refusal.the-variants as refusals
+use Rattle.laws.specs.Tests.{both, second}
 use Rattle.members.specs.Listing.{listing}
 use Rattle.members.specs.declared.Members.{Members}
 use Rattle.reading.specs.Reading.{isStation, readHeaderOf, readBodyOf, dataOf}
@@ -24,13 +24,13 @@ use Rattle.station.specs.ApartTicking.{fresh-apart, start-apart, stop-ap
 use Rattle.station.specs.Asking as asking
 use Rattle.station.specs.Calls.{Call, start, stop, tick, hear, ask, after}
 use Rattle.station.specs.Data.{gathered}
-use Rattle.station.specs.Hearing.{relisted, requested, enters, entersAnswer, participantHeard, accepted, isTaken, afterTaken, isStranger, lentRight, refused, bodyHeard, headerHeard, hearOf}
+use Rattle.station.specs.Hearing.{requested, enters, entersAnswer, participantHeard, accepted, isTaken, afterTaken, isStranger, lentRight, refused, bodyHeard, headerHeard, hearOf}
 use Rattle.station.specs.KeepsAsking.{sound}
+use Rattle.station.specs.KeepsEntering.{same-fallen}
 use Rattle.station.specs.Reachable.{Reachable, unstarted, called, Sound}
 use Rattle.station.specs.Starting.{requestFallen, oursDue, joinedBy}
 use Rattle.station.specs.State.{isOff, isParticipating, fresh, stopped}
 use Rattle.station.specs.Waits.{numberWait}
-use Rattle.station.specs.declared.Gathering.{Gathering}
 use Rattle.station.specs.declared.Phase.{Phase}
 use Rattle.station.specs.declared.Phase.the-variants.{Off, Listening, Startup, Joining, Participating}
 use Rattle.station.specs.declared.Station.{Station}
@@ -62,15 +62,7 @@ joined-apart station frame e apart number three early = record {
         let all = ltb-false (station .rounds) 3 m in
         apart .ours (rw e (both (eq-eqb (station .rounds) 3 (omega arith)) z))
 
--- another list alters nothing of whether our request has fallen due
-same-fallen : (phase : Phase) (station : Station) (members : Members) (gathering : Gathering)
-    → requestFallen phase (relisted station members gathering) ≡ requestFallen phase station
-same-fallen Off station members gathering = refl
-same-fallen Listening station members gathering = refl
-same-fallen Startup station members gathering = refl
-same-fallen Joining station members gathering = refl
-same-fallen Participating station members gathering = refl
-
+-- sending our request alters nothing of whether it has fallen due
 sent-fallen : (phase : Phase) (station : Station) → requestFallen phase (asking.requestSent station) ≡ requestFallen phase station
 sent-fallen Off station = refl
 sent-fallen Listening station = refl

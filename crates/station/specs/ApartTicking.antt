@@ -6,10 +6,10 @@ use Prim.Native.Nat.{ℕ, _+_, _≤_, min}
 use native.Mathlib.Omega.{arith}
 use lib.Dec.{eqb, leb, ltb}
 use borrow.Author.Tests.{leb-true, ltb-false, le-leb}
-use Rattle.laws.specs.Tests.{both, first, second}
 use Rattle.area.specs.Areas.{inRange}
 use Rattle.frame.specs.declared.Refusal.{Refusal}
 use Rattle.frame.specs.declared.Refusal.the-variants as refusals
+use Rattle.laws.specs.Tests.{both, first, second}
 use Rattle.members.specs.Listing.{bare, overlapsListed}
 use Rattle.members.specs.Members.{numbersOf}
 use Rattle.panel.specs.Panel.{ticked}

@@ -1,6 +1,6 @@
 -- Asking for a frame keeps what holds in every state; so it holds in every state that calls can leave. Assumes nothing.
 use mathlib.Core.Path.{_≡_, refl, sym, _∙_}
-use mathlib.Core.Bool.{Bool, true, false, cond, _&&_, false≢true}
+use mathlib.Core.Bool.{Bool, true, false, cond, not, _&&_, false≢true}
 use mathlib.Core.List.{List}
 use Prim.Native.Nat.{ℕ, _<_}
 use native.Mathlib.Omega.{arith}
@@ -8,6 +8,7 @@ use lib.Dec.{eqb}
 use borrow.Author.Tests.{leb-false}
 use Rattle.block.specs.Blocks.{blocksOf}
 use Rattle.frame.specs.declared.Refusal.the-variants as refusals
+use Rattle.laws.specs.Tests.{first}
 use Rattle.reading.specs.Reading.{isStation}
 use Rattle.writing.specs.Writing.{noAreas, noWatch}
 use Rattle.station.specs.Asking.{dueIn, nextBlock, isLast, nextStation, turnAfter, requestSent, blockSent, sentIn, lentRight, refused, written, askOf}
@@ -17,6 +18,7 @@ use Rattle.station.specs.KeepsStarting.{taken-shown, off-sound, startup-
 use Rattle.station.specs.KeepsTicking.{tick-sound}
 use Rattle.station.specs.ListKept.{next-station}
 use Rattle.station.specs.Reachable.{Typed, Reachable, unstarted, called, Ours, Sound}
+use Rattle.station.specs.Starting.{requestFallen}
 use Rattle.station.specs.State.{holds}
 use Rattle.station.specs.declared.Phase.{Phase}
 use Rattle.station.specs.declared.Phase.the-variants.{Off, Listening, Startup, Joining, Participating}
@@ -24,8 +26,8 @@ use Rattle.station.specs.declared.Station.{Station}
 
 module _ (station : Station) (ok : Sound station) where
   -- our request, sent in ring startup
-  request-sound : Sound (requestSent station)
-  request-sound = record {
+  request-sound : station .phase ≡ Startup → requestFallen Startup station ≡ true → Sound (requestSent station)
+  request-sound e fallen = record {
     list = ok .list;
     empty = ok .empty;
     number = ok .number;
@@ -34,6 +36,7 @@ module _ (station : Station) (ok : Sound station) where
     elapsed = ok .elapsed;
     waited = ok .waited;
     unwaited = ok .unwaited;
+    sent = λ z. rw e fallen;
     view = ok .view;
     unseen = ok .unseen;
     place = ok .place;
@@ -57,6 +60,7 @@ module _ (station : Station) (ok : Sound station) where
         elapsed = omega arith;
         waited = ok .waited;
         unwaited = ok .unwaited;
+        sent = λ z. refl;
         view = λ z. view ours (isLast station);
         unseen = λ z. absurd (false≢true (sym z));
         place = place (isLast station) refl;
@@ -81,7 +85,7 @@ module _ (station : Station) (ok : Sound station) where
   sent-sound : (phase : Phase) → station .phase ≡ phase → dueIn phase station ≡ true → Sound (sentIn phase station)
   sent-sound Off e due = ok
   sent-sound Listening e due = startup-sound (station .own) (ok .ours (rw e))
-  sent-sound Startup e due = request-sound
+  sent-sound Startup e due = request-sound e (first (requestFallen Startup station) (not (station .sent)) due)
   sent-sound Joining e due = begun-sound (station .own) (station .members) (station .view) (ok .ours (rw e)) (ok .list) (ok .view (rw e))
   sent-sound Participating e due = block-sound e due
 

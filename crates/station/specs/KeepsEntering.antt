@@ -7,7 +7,6 @@ use native.Mathlib.Omega.{arith}
 use lib.Dec.{eqb, leb, ltb}
 use lib.ListN.{getD}
 use borrow.Author.Tests.{leb-true, le-leb, eqb-true, eqb-false, ne-eqb}
-use Rattle.laws.specs.Tests.{both, first, second}
 use Rattle.area.specs.Areas.{inRange}
 use Rattle.area.specs.declared.Areas.{Areas}
 use Rattle.block.specs.Blocks.{blocksOf}
@@ -16,20 +15,23 @@ use Rattle.frame.specs.Positions.{TW}
 use Rattle.frame.specs.declared.Code.{Code}
 use Rattle.frame.specs.declared.Code.the-variants.{Token, Cyclic, Request, Trigger}
 use Rattle.frame.specs.declared.Fields.{Fields}
+use Rattle.laws.specs.Tests.{both, first, second}
 use Rattle.members.specs.Listing.{listing}
+use Rattle.members.specs.declared.Members.{Members}
 use Rattle.reading.specs.Reading.{isStation, fieldsOf}
 use Rattle.round_trip.specs.Accepted.{Accepted}
 use Rattle.round_trip.specs.Shown.{source-is, destination-is, areas-are, block-is}
 use Rattle.writing.specs.Writing.{noAreas}
 use Rattle.station.specs.Data.{sameAreas}
-use Rattle.station.specs.Hearing.{requested, enters}
+use Rattle.station.specs.Hearing.{relisted, requested, enters}
 use Rattle.station.specs.KeepsStarting.{blank-shown, number-to, startup-sound}
 use Rattle.station.specs.ListKept.{empty-kept, listing-kept, placed-with}
 use Rattle.station.specs.Reachable.{Ours, Listed, Placed, Shown, Sound}
-use Rattle.station.specs.Starting.{oursDue, endsRound, joinedBy}
+use Rattle.station.specs.Starting.{requestFallen, oursDue, endsRound, joinedBy}
 use Rattle.station.specs.State.{isOff, isParticipating, nothing, noTicks, fresh}
 use Rattle.station.specs.Token.{viewHeard}
 use Rattle.station.specs.Waits.{detectionWait, numberWait}
+use Rattle.station.specs.declared.Gathering.{Gathering}
 use Rattle.station.specs.declared.Phase.{Phase}
 use Rattle.station.specs.declared.Phase.the-variants.{Off, Listening, Startup, Joining, Participating}
 use Rattle.station.specs.declared.Station.{Station}
@@ -40,6 +42,7 @@ pub record Fit (frame : Fields) : Type 0 where
   pub destination : isToken (frame .code) ≡ true → isStation (frame .destination) ≡ true
   pub areas : carriesAreas (frame .code) ≡ true → inRange (frame .areas) ≡ true
   pub total : isCyclic (frame .code) ≡ true → frame .blocks ≡ blocksOf (frame .areas)
+  pub from : isCyclic (frame .code) ≡ true → 1 ≤ frame .block
   pub last : isCyclic (frame .code) ≡ true → frame .block ≤ frame .blocks
   pub watch : frame .watch .0 ≤ 255
 
@@ -56,6 +59,7 @@ fit octets frame typed a = record {
   destination = destination-is a;
   areas = areas-are a;
   total = λ e. block-is a e .total;
+  from = λ e. block-is a e .from;
   last = λ e. block-is a e .to;
   watch = watch-small octets frame typed a;
 }
@@ -76,6 +80,7 @@ module _ (station : Station) (frame : Fields) (fits : Fit frame) where
     elapsed = ticks (isToken (frame .code));
     waited = most;
     unwaited = unwaited (endsRound frame);
+    sent = λ e. absurd (false≢true e);
     view = λ e. view (isToken (frame .code)) refl;
     unseen = λ e. absurd (false≢true (sym e));
     place = omega arith;
@@ -126,6 +131,15 @@ same-blocks a b e =
     let q = eqb-true (a .two .size) (b .two .size) (second (eqb (a .two .address) (b .two .address)) (eqb (a .two .size) (b .two .size)) two) in
     rw (p, q)
 
+-- another list alters nothing of whether our request has fallen due
+pub same-fallen : (phase : Phase) (station : Station) (members : Members) (gathering : Gathering)
+    → requestFallen phase (relisted station members gathering) ≡ requestFallen phase station
+same-fallen Off station members gathering = refl
+same-fallen Listening station members gathering = refl
+same-fallen Startup station members gathering = refl
+same-fallen Joining station members gathering = refl
+same-fallen Participating station members gathering = refl
+
 -- a frame of another station, heard by a station that is not off
 module _ (station : Station) (frame : Fields) (ok : Sound station) (fits : Fit frame) (on : isOff (station .phase) ≡ false)
     (other : eqb (frame .source) (station .own .number) ≡ false) where
@@ -151,6 +165,7 @@ module _ (station : Station) (frame : Fields) (ok : Sound station) (fits : Fit f
     elapsed = ok .elapsed;
     waited = ok .waited;
     unwaited = ok .unwaited;
+    sent = λ s. same-fallen (station .phase) station _ _ ∙ ok .sent s;
     view = ok .view;
     unseen = ok .unseen;
     place = ok .place;

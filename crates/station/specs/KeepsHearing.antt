@@ -7,12 +7,12 @@ use native.Mathlib.Omega.{arith}
 use lib.Dec.{eqb}
 use lib.ListN.{length, getD}
 use borrow.Author.Tests.{eqb-false, not-false}
-use Rattle.laws.specs.Tests.{first}
 use Rattle.block.specs.Blocks.{blocksOf, startOf}
 use Rattle.copying.specs.Pasted.{pasted}
 use Rattle.frame.specs.Codes.{isToken, isCyclic}
 use Rattle.frame.specs.declared.Fields.{Fields}
 use Rattle.frame.specs.declared.Refusal.the-variants as refusals
+use Rattle.laws.specs.Tests.{first}
 use Rattle.members.specs.Members.{entryOf, isListed, cleared}
 use Rattle.reading.specs.Reading.{need, andThen, ranged, blocked, readHeaderOf, readBodyOf, readOf, dataOf}
 use Rattle.reading.specs.declared.Read.{Read}
@@ -20,8 +20,8 @@ use Rattle.reading.specs.declared.Read.the-variants.{Frame, Refused}
 use Rattle.round_trip.specs.Accepted.{accepted as read-accepted}
 use Rattle.station.specs.Data.{Gathered, turnWritten, sameAreas, isNext, dropped, gathered}
 use Rattle.station.specs.Hearing.{Hearing, enters, entersAnswer, participantHeard, accepted, isTaken, afterTaken, knows, isStranger, lentRight, refused, bodyHeard, headerHeard, hearOf}
-use Rattle.station.specs.KeepsStarting.{off-sound, restarted-sound}
 use Rattle.station.specs.KeepsEntering.{Fit, fit, same-blocks, enters-sound, view-station}
+use Rattle.station.specs.KeepsStarting.{off-sound, restarted-sound}
 use Rattle.station.specs.ListKept.{cleared-kept, placed-misses}
 use Rattle.station.specs.Reachable.{Placed, hasView, Sound}
 use Rattle.station.specs.State.{isOff, isParticipating, nothing, stopped}
@@ -91,7 +91,7 @@ module _ (station : Station) (frame : Fields) (ok : Sound station) (fits : Fit f
           let unlike = eqb-false (frame .block) (frame .blocks) l in
           let some : frame .block < frame .blocks = omega arith in
           let within : frame .block < blocksOf (entryOf (station .members) (frame .source) .areas) = rw (← same, ← total) some in
-          placed-misses {members = station .members} {gathering = held} (record { listed = listed; blocks = within }) (frame .source) 0
+          placed-misses {members = station .members} {gathering = held} (record { listed = listed; some = fits .from cyclic; blocks = within }) (frame .source) 0
       by false f last l e = absurd (false≢true (sym e))
 
   -- a frame that no refusal met

@@ -5,11 +5,11 @@ use Prim.Native.Nat.{ℕ, _≤_, _<_}
 use native.Mathlib.Omega.{arith}
 use lib.Dec.{eqb, leb, ltb}
 use borrow.Author.Tests.{leb-true, ltb-true}
-use Rattle.laws.specs.Tests.{first, second}
 use Rattle.area.specs.Areas.{inRange}
 use Rattle.block.specs.Blocks.{blocksOf}
 use Rattle.frame.specs.declared.Refusal.{Refusal}
 use Rattle.frame.specs.declared.Refusal.the-variants as refusals
+use Rattle.laws.specs.Tests.{first, second}
 use Rattle.members.specs.declared.Members.{Members}
 use Rattle.panel.specs.Panel.{blank, taken, ticked}
 use Rattle.panel.specs.declared.Panel.{Panel}
@@ -51,6 +51,7 @@ fresh-sound phase own number some blind ours = record {
   elapsed = some;
   waited = omega arith;
   unwaited = λ e. refl;
+  sent = λ e. absurd (false≢true e);
   view = λ e. absurd (false≢true (sym blind ∙ e));
   unseen = λ e. refl;
   place = omega arith;
@@ -106,6 +107,7 @@ begun-sound own members view ours list seen =
       elapsed = omega arith;
       waited = omega arith;
       unwaited = λ e. refl;
+      sent = λ e. absurd (false≢true e);
       view = λ e. seen;
       unseen = λ e. absurd (false≢true (sym e));
       place = omega arith;
@@ -130,6 +132,7 @@ restarted-sound station members view gathering panel ok ours list seen placed sh
       elapsed = omega arith;
       waited = ok .waited;
       unwaited = ok .unwaited;
+      sent = λ e. refl;
       view = λ e. seen;
       unseen = λ e. absurd (false≢true (sym e));
       place = by (eqb view (station .own .number));

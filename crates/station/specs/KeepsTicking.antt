@@ -5,7 +5,8 @@ use mathlib.Core.List.{List, [], _∷_}
 use Prim.Native.Nat.{ℕ, _+_, _≤_, _<_, min}
 use native.Mathlib.Omega.{arith}
 use lib.Dec.{eqb, leb, ltb}
-use borrow.Author.Tests.{leb-false, eqb-false}
+use borrow.Author.Tests.{leb-true, leb-false, le-leb, eqb-false}
+use Rattle.laws.specs.Tests.{both, first, second}
 use Rattle.members.specs.Listing.{bare, overlapsListed}
 use Rattle.members.specs.Members.{nobody, isListed, numbersOf, strikes, missed, struck, entryOf, withEntry, missesSet, smallest, nextAfter}
 use Rattle.members.specs.declared.Members.{Members}
@@ -16,7 +17,7 @@ use Rattle.station.specs.Data.{without}
 use Rattle.station.specs.KeepsStarting.{ticked-shown, listening-sound, begun-sound, restarted-sound}
 use Rattle.station.specs.ListKept.{missed-kept, next-station, smallest-station, bare-range, placed-with, placed-misses}
 use Rattle.station.specs.Reachable.{Ours, Listed, Placed, Shown, limitOf, Sound}
-use Rattle.station.specs.Starting.{startedUp}
+use Rattle.station.specs.Starting.{requestFallen, startedUp}
 use Rattle.station.specs.State.{isParticipating, nothing, fresh}
 use Rattle.station.specs.Ticking.{later, counted, fallsDue, startupTick, joiningWait, joiningTick, watchEnded, watchEnds, participantTick, tickedBy, tickOf}
 use Rattle.station.specs.Waits.{detectionWait, acceptanceTime, numberWait, listeningTime, watchTicks}
@@ -32,7 +33,8 @@ bared own = record { number = own .number; areas = bare (own .areas); watch = ow
 -- other counts of ticks, and our sizes 0 or not
 module _ (station : Station) (elapsed waited : Ticks) (panel : Panel) (ok : Sound station)
     (below : elapsed .0 < limitOf (station .phase) (station .own .number) (station .own .watch))
-    (most : waited .0 ≤ numberWait (station .own .number)) (early : eqb (station .rounds) 3 ≡ false → waited .0 ≡ 0) (shown : Shown panel) where
+    (most : waited .0 ≤ numberWait (station .own .number)) (early : eqb (station .rounds) 3 ≡ false → waited .0 ≡ 0) (shown : Shown panel)
+    (asked : station .sent ≡ true → requestFallen (station .phase) (counted station (station .own) elapsed waited panel) ≡ true) where
   counted-sound : Sound (counted station (station .own) elapsed waited panel)
   counted-sound = record {
     list = ok .list;
@@ -43,6 +45,7 @@ module _ (station : Station) (elapsed waited : Ticks) (panel : Panel) (ok : Soun
     elapsed = below;
     waited = most;
     unwaited = early;
+    sent = asked;
     view = ok .view;
     unseen = ok .unseen;
     place = ok .place;
@@ -51,6 +54,15 @@ module _ (station : Station) (elapsed waited : Ticks) (panel : Panel) (ok : Soun
     ungathered = ok .ungathered;
     panel = shown;
   }
+
+  -- our number stays, and with it when our request falls due
+  bared-fallen : (phase : Phase)
+      → requestFallen phase (counted station (bared (station .own)) elapsed waited panel) ≡ requestFallen phase (counted station (station .own) elapsed waited panel)
+  bared-fallen Off = refl
+  bared-fallen Listening = refl
+  bared-fallen Startup = refl
+  bared-fallen Joining = refl
+  bared-fallen Participating = refl
 
   bared-sound : isParticipating (station .phase) ≡ false → Sound (counted station (bared (station .own)) elapsed waited panel)
   bared-sound before =
@@ -69,6 +81,7 @@ module _ (station : Station) (elapsed waited : Ticks) (panel : Panel) (ok : Soun
         elapsed = below;
         waited = most;
         unwaited = early;
+        sent = λ s. bared-fallen (station .phase) ∙ asked s;
         view = ok .view;
         unseen = ok .unseen;
         place = omega arith;
@@ -101,6 +114,13 @@ module _ (station : Station) (ok : Sound station) where
       ours : Ours (station .own)
       ours = ok .ours (rw e)
 
+      asked : station .sent ≡ true → requestFallen (station .phase)
+          (counted station (station .own) (later acceptanceTime (station .elapsed)) (station .waited) (station .panel)) ≡ true
+      asked s =
+          let come = leb-true (numberWait (station .own .number)) (station .elapsed .0) (rw e at (ok .sent s)) in
+          let below : station .elapsed .0 < acceptanceTime = rw e at (ok .elapsed) in
+          rw e (le-leb (numberWait (station .own .number)) (min acceptanceTime (station .elapsed .0 + 1)) (omega arith))
+
       by : (test : Bool) → leb acceptanceTime (min acceptanceTime (station .elapsed .0 + 1)) ≡ test → Sound
           (cond test
           (startedUp (station .own) (station .members) (numbersOf (station .members)))
@@ -108,12 +128,22 @@ module _ (station : Station) (ok : Sound station) where
       by true t = started-sound (station .own) (station .members) (numbersOf (station .members)) ours (ok .list)
       by false t =
           falls-sound station (later acceptanceTime (station .elapsed)) (station .waited) (station .panel) ok
-          (rw e (leb-false acceptanceTime (min acceptanceTime (station .elapsed .0 + 1)) t)) (ok .waited) (ok .unwaited) (ok .panel) (rw e)
+          (rw e (leb-false acceptanceTime (min acceptanceTime (station .elapsed .0 + 1)) t)) (ok .waited) (ok .unwaited) (ok .panel) asked (rw e)
           (station .elapsed) (later acceptanceTime (station .elapsed))
 
   joining-tick : station .phase ≡ Joining → Sound (joiningTick station (later detectionWait (station .elapsed)))
   joining-tick e = by (leb detectionWait (min detectionWait (station .elapsed .0 + 1))) refl (eqb (station .rounds) 3) refl
     where
+      longer : station .sent ≡ true → requestFallen (station .phase)
+          (counted station (station .own) (later detectionWait (station .elapsed)) (later (numberWait (station .own .number)) (station .waited)) (station .panel))
+          ≡ true
+      longer s =
+          let fell = rw e at (ok .sent s) in
+          let come = leb-true (numberWait (station .own .number)) (station .waited .0)
+          (second (eqb (station .rounds) 3) (leb (numberWait (station .own .number)) (station .waited .0)) fell) in
+          rw e (both (first (eqb (station .rounds) 3) (leb (numberWait (station .own .number)) (station .waited .0)) fell)
+          (le-leb (numberWait (station .own .number)) (min (numberWait (station .own .number)) (station .waited .0 + 1)) (omega arith)))
+
       by : (test : Bool) → leb detectionWait (min detectionWait (station .elapsed .0 + 1)) ≡ test → (third : Bool) → eqb (station .rounds) 3 ≡ third → Sound
           (cond test
           (fresh Listening (station .own))
@@ -121,11 +151,12 @@ module _ (station : Station) (ok : Sound station) where
       by true t third r = listening-sound (station .own) (ok .ours (rw e))
       by false t true r =
           falls-sound station (later detectionWait (station .elapsed)) (later (numberWait (station .own .number)) (station .waited)) (station .panel) ok
-          (rw e (leb-false detectionWait (min detectionWait (station .elapsed .0 + 1)) t)) (omega arith) (λ z. absurd (false≢true (sym z ∙ r))) (ok .panel) (rw e)
+          (rw e (leb-false detectionWait (min detectionWait (station .elapsed .0 + 1)) t)) (omega arith) (λ z. absurd (false≢true (sym z ∙ r))) (ok .panel) longer (rw e)
           (station .waited) (later (numberWait (station .own .number)) (station .waited))
       by false t false r =
           falls-sound station (later detectionWait (station .elapsed)) (station .waited) (station .panel) ok
-          (rw e (leb-false detectionWait (min detectionWait (station .elapsed .0 + 1)) t)) (ok .waited) (ok .unwaited) (ok .panel) (rw e) (station .waited) (station .waited)
+          (rw e (leb-false detectionWait (min detectionWait (station .elapsed .0 + 1)) t)) (ok .waited) (ok .unwaited) (ok .panel)
+          (λ s. rw e (rw e at (ok .sent s))) (rw e) (station .waited) (station .waited)
 
   -- what was gathered when the watch ends
   struck-placed : (listed strike same : Bool) → eqb (station .view) (station .gathering .source) ≡ same
@@ -168,13 +199,13 @@ module _ (station : Station) (ok : Sound station) where
           (ticked-shown (ok .panel))
       by false t =
           let more = leb-false (watchTicks (station .own .watch)) (station .elapsed .0 + 1) t in
-          counted-sound station (later 2550 (station .elapsed)) (station .waited) (ticked (station .panel)) ok (rw e (omega arith)) (ok .waited) (ok .unwaited) (ticked-shown (ok .panel))
+          counted-sound station (later 2550 (station .elapsed)) (station .waited) (ticked (station .panel)) ok (rw e (omega arith)) (ok .waited) (ok .unwaited) (ticked-shown (ok .panel)) (λ s. rw e)
 
   tick-in : (phase : Phase) → station .phase ≡ phase → Sound (tickedBy phase station)
   tick-in Off e = ok
   tick-in Listening e =
       counted-sound station (later (listeningTime (station .own .number)) (station .elapsed)) (station .waited) (station .panel) ok
-      (rw e (omega arith)) (ok .waited) (ok .unwaited) (ok .panel)
+      (rw e (omega arith)) (ok .waited) (ok .unwaited) (ok .panel) (λ s. absurd (false≢true (rw e at (ok .sent s))))
   tick-in Startup e = startup-tick e
   tick-in Joining e = joining-tick e
   tick-in Participating e = participant-tick e

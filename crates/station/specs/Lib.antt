@@ -33,3 +33,7 @@ pub mod KeepsAsking
 pub mod Apart
 pub mod ApartTicking
 pub mod ApartHearing
+pub mod RingKept
+pub mod Reached
+pub mod ViewKept
+pub mod Seen

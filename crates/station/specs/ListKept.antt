@@ -7,12 +7,12 @@ use native.Mathlib.Omega.{arith}
 use lib.Dec.{eqb, ltb}
 use lib.ListN.{getD, set, replicate, length-replicate, length-set}
 use borrow.Author.Tests.{leb-true, leb-false, le-leb}
-use Rattle.laws.specs.Tests.{both, first, second}
 use Rattle.area.specs.Areas.{inArea, inRange}
 use Rattle.area.specs.Overlap.{areasOverlap}
 use Rattle.area.specs.declared.Area.the-variants.{One, Two}
 use Rattle.area.specs.declared.Areas.{Areas}
 use Rattle.block.specs.Blocks.{blocksOf}
+use Rattle.laws.specs.Tests.{both, first, second}
 use Rattle.members.specs.Listing.{bare, overlapsOther, listing}
 use Rattle.members.specs.Members.{nobody, noMembers, entryOf, isListed, withEntry, numbersFrom, numbersOf, withOurs, ringOf, nextAfter, firstOf, smallest, missesSet, cleared, struck, strikes, missed}
 use Rattle.members.specs.declared.Entry.{Entry}
@@ -170,7 +170,7 @@ module _ {members : Members} {gathering : Gathering} (p : Placed members gatheri
       → Placed (withEntry members number entry) gathering
   placed-with number entry f =
       let q = set-either (Stands (gathering .blocks)) (members .entries) number entry (gathering .source) f (p .listed, p .blocks) in
-      record { listed = q .0; blocks = q .1 }
+      record { listed = q .0; some = p .some; blocks = q .1 }
 
   pub placed-misses : (number misses : ℕ) → Placed (withEntry members number (missesSet misses (entryOf members number))) gathering
   placed-misses number misses =

@@ -14,6 +14,7 @@ use Rattle.panel.specs.declared.Panel.{Panel}
 use Rattle.reading.specs.Reading.{isStation}
 use Rattle.units.specs.declared.Milliseconds.{Milliseconds}
 use Rattle.station.specs.Calls.{Call, start, stop, tick, hear, ask, after}
+use Rattle.station.specs.Starting.{requestFallen}
 use Rattle.station.specs.State.{isOff, isParticipating, never, holds}
 use Rattle.station.specs.Waits.{detectionWait, acceptanceTime, numberWait, listeningTime, watchTicks}
 use Rattle.station.specs.declared.Gathering.{Gathering}
@@ -81,7 +82,9 @@ pub record Listed (ours : ℕ) (members : Members) : Type 0 where
 pub record Placed (members : Members) (gathering : Gathering) : Type 0 where
   -- its source is listed
   pub listed : isListed members (gathering .source) ≡ true
-  -- blocks are still to come
+  -- there is a block of it
+  pub some : 1 ≤ gathering .blocks
+  -- and blocks are still to come
   pub blocks : gathering .blocks < blocksOf (entryOf members (gathering .source) .areas)
 
 -- the panel's counts
@@ -126,6 +129,8 @@ pub record Sound (station : Station) : Type 0 where
   pub waited : station .waited .0 ≤ numberWait (station .own .number)
   -- and not before the third round has ended
   pub unwaited : eqb (station .rounds) 3 ≡ false → station .waited .0 ≡ 0
+  -- a request is sent only once it has fallen due
+  pub sent : station .sent ≡ true → requestFallen (station .phase) station ≡ true
   -- the view is 1 to 254 in joining, where it is the last token destination heard, and in participating
   pub view : hasView (station .phase) ≡ true → isStation (station .view) ≡ true
   -- it is 0 in the others
