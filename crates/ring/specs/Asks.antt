@@ -4,18 +4,16 @@ use mathlib.Core.Bool.{Bool, true, false, cond}
 use mathlib.Core.List.{List}
 use Prim.Native.Nat.{ℕ}
 use native.Mathlib.Decide.{ℕ-discrete}
-use lib.Dec.{eqb}
 use lib.ListN.{take}
 use borrow.Author.Tests.{eq-eqb, ne-eqb, eqb-true}
 use Rattle.frame.specs.Codes.{isToken}
 use Rattle.frame.specs.declared.Fields.{Fields}
 use Rattle.members.specs.Members.{cleared}
 use Rattle.reading.specs.Reading.{isStation, dataOf}
-use Rattle.settling.specs.Ring.{_∈_, next, pass, Legal, move, viewAfterPass}
-use Rattle.settling.specs.Simulation.{Effect, makes, nothing, Moved}
+use Rattle.settling.specs.Ring.{_∈_, next, viewAfterPass}
+use Rattle.settling.specs.Simulation.{Moved}
 use Rattle.station.specs.Asking as asking
 use Rattle.station.specs.Data.{gathered}
-use Rattle.station.specs.Hearing as hearing
 use Rattle.station.specs.State.{holds}
 use Rattle.station.specs.Token.{viewHeard, viewAfter, restarted}
 use Rattle.station.specs.declared.Asked.the-variants as answers
@@ -26,7 +24,8 @@ use Rattle.ring.specs.Events.{Stations, Lent, Event, asked, handed, afte
 use Rattle.ring.specs.Hears.{accepts}
 use Rattle.ring.specs.Member.{InRing, restarted-in, cleared-kept, sent-in}
 use Rattle.frame.specs.declared.Refusal.the-variants as refusals
-use Rattle.ring.specs.Steps.{Ok, next-is, same-move, heard-in, sends, source-is, destination-is, cyclic-is, last-is, idle-station, idle-answer, asked-station, asked-answer, asked-read}
+use Rattle.station.specs.Laws.{same-move}
+use Rattle.ring.specs.Steps.{Ok, next-is, heard-in, sends, source-is, destination-is, cyclic-is, last-is, idle-station, idle-answer, asked-station, asked-answer, asked-read}
 
 module _ (numbers : List ℕ) (laws-next : (x : ℕ) → x ∈ numbers → next numbers x ∈ numbers)
     (are-stations : (x : ℕ) → x ∈ numbers → isStation x ≡ true) (stations : Stations) (ok : Ok numbers stations)

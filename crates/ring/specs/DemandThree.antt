@@ -9,7 +9,7 @@ use Rattle.members.specs.Members.{firstOf}
 use Rattle.reading.specs.Reading.{isStation}
 use Rattle.settling.specs.First.{FirstAgreement}
 use Rattle.settling.specs.Next.{laws-of}
-use Rattle.settling.specs.Ring.{_∈_, next, Stations as Ascending}
+use Rattle.settling.specs.Ring.{_∈_, next}
 use Rattle.settling.specs.Simulation.{AllAgreed, MachineSettles, Moved, Simulates, machine-settles}
 use Rattle.settling.specs.Steps.{EachFinds}
 use Rattle.station.specs.Calls.{ask, hear}

@@ -1,22 +1,20 @@
 -- A participant whose last call sent or heard a token frame has just restarted its watch. Assumes nothing.
 use mathlib.Core.Path.{_≡_, refl, ap, sym, _∙_}
-use mathlib.Core.Bool.{Bool, true, false, cond, not, _&&_, _||_, false≢true}
+use mathlib.Core.Bool.{Bool, true, false, cond, false≢true}
 use mathlib.Core.List.{List}
 use Prim.Native.Nat.{ℕ}
 use native.Mathlib.Omega.{arith}
-use lib.ListN.{length}
 use Rattle.frame.specs.Codes.{isToken, isCyclic}
 use Rattle.frame.specs.declared.Code.{Code}
 use Rattle.frame.specs.declared.Code.the-variants.{Token, Cyclic, Request, Trigger}
 use Rattle.frame.specs.declared.Fields.{Fields}
 use Rattle.frame.specs.declared.Refusal.{Refusal}
 use Rattle.frame.specs.declared.Refusal.the-variants as refusals
-use Rattle.reading.specs.Reading.{readOf, readHeaderOf, readBodyOf, dataOf}
+use Rattle.reading.specs.Reading.{readOf}
 use Rattle.reading.specs.declared.Read.the-variants.{Frame}
 use Rattle.round_trip.specs.Accepted.{Accepted, accepted}
 use Rattle.station.specs.Asking as asking
-use Rattle.station.specs.Calls.{after, hear, ask, Verdict, taken, refusedBy, verdict, heardVerdict}
-use Rattle.station.specs.Data.{gathered}
+use Rattle.station.specs.Calls.{hear, taken, refusedBy, verdict}
 use Rattle.station.specs.Hearing as hearing
 use Rattle.station.specs.State.{isParticipating}
 use Rattle.station.specs.declared.Asked.the-variants.{Octets}

@@ -6,8 +6,8 @@ use mathlib.Core.Logic.{_⊎_, inl, inr}
 use Prim.Native.Nat.{ℕ, zero, suc, _+_}
 use native.Mathlib.Omega.{arith}
 use lib.Dec.{ltb}
-use lib.ListN.{length, getD, set, length-set}
-use Rattle.members.specs.Members.{nobody, entryOf, isListed, withEntry, numbersFrom, numbersOf, withOurs, ringOf}
+use lib.ListN.{getD, set}
+use Rattle.members.specs.Members.{nobody, isListed, withEntry, numbersFrom, numbersOf, withOurs, ringOf}
 use Rattle.members.specs.declared.Entry.{Entry}
 use Rattle.members.specs.declared.Members.{Members}
 use Rattle.settling.specs.Ring.{_∈_}

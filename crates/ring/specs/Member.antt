@@ -2,11 +2,10 @@
 use mathlib.Core.Path.{_≡_, refl, ap, sym, _∙_}
 use mathlib.Core.Bool.{Bool, true, false, cond, _&&_, false≢true}
 use mathlib.Core.List.{List}
-use Prim.Native.Nat.{ℕ, _+_, _<_, _≤_, min}
+use Prim.Native.Nat.{ℕ, _+_, _<_}
 use native.Mathlib.Omega.{arith}
-use lib.Dec.{eqb, leb}
-use lib.ListN.{length, length-set}
-use borrow.Author.Tests.{eq-eqb, ne-eqb, leb-false}
+use lib.Dec.{eqb}
+use borrow.Author.Tests.{leb-false}
 use Rattle.area.specs.Areas.{inRange}
 use Rattle.block.specs.Blocks.{blocksOf}
 use Rattle.members.specs.Members.{entryOf, isListed, withEntry, ringOf, nextAfter, cleared, missesSet, struck, missed, strikes}
@@ -14,7 +13,6 @@ use Rattle.members.specs.declared.Members.{Members}
 use Rattle.panel.specs.declared.Panel.{Panel}
 use Rattle.settling.specs.Ring.{_∈_, next}
 use Rattle.station.specs.Asking.{nextBlock, isLast, nextStation, blockSent}
-use Rattle.station.specs.State.{noTicks}
 use Rattle.station.specs.Token.{restarted}
 use Rattle.station.specs.declared.Gathering.{Gathering}
 use Rattle.station.specs.declared.Phase.the-variants.{Participating}

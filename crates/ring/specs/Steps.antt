@@ -1,43 +1,31 @@
 -- Each event moves the views of the ring by one pass, by one silence or not at all. Assumes nothing.
-use mathlib.Core.Path.{_≡_, refl, ap, sym, subst, _∙_}
-use mathlib.Core.Bool.{Bool, true, false, cond, not, _&&_, _||_, and-false, false≢true}
-use mathlib.Core.List.{List, [], _∷_}
-use Prim.Native.Nat.{ℕ, _+_, _<_, _≤_, min}
+use mathlib.Core.Path.{_≡_, refl, ap, _∙_}
+use mathlib.Core.Bool.{Bool, true, false, cond}
+use mathlib.Core.List.{List}
+use Prim.Native.Nat.{ℕ, _≤_, min}
 use native.Mathlib.Decide.{ℕ-discrete, decLe}
 use native.Mathlib.Omega.{arith}
-use lib.Dec.{eqb, leb}
-use lib.ListN.{length, take}
-use borrow.Author.Tests.{eq-eqb, ne-eqb, eqb-true, eqb-false, le-leb, lt-leb}
+use lib.Dec.{eqb}
+use lib.ListN.{take}
+use borrow.Author.Tests.{eq-eqb, ne-eqb, le-leb, lt-leb}
 use Rattle.block.specs.Blocks.{blocksOf}
 use Rattle.frame.specs.Codes.{isToken, isCyclic}
-use Rattle.frame.specs.declared.Code.{Code}
-use Rattle.frame.specs.declared.Code.the-variants.{Token, Cyclic, Request, Trigger}
+use Rattle.frame.specs.declared.Code.the-variants.{Token, Cyclic}
 use Rattle.frame.specs.declared.Fields.{Fields}
 use Rattle.frame.specs.declared.Refusal.the-variants as refusals
-use Rattle.members.specs.Members.{firstOf, isListed, strikes, cleared, nextAfter}
-use Rattle.reading.specs.Reading.{isStation, readOf, dataOf}
+use Rattle.reading.specs.Reading.{isStation, readOf}
 use Rattle.reading.specs.declared.Read.the-variants.{Frame}
-use Rattle.settling.specs.Next.{NextLaws}
-use Rattle.settling.specs.Ring.{_∈_, next, pass, silence, move, Legal, viewAfterPass}
-use Rattle.settling.specs.Simulation.{Effect, makes, nothing, Moved}
+use Rattle.settling.specs.Ring.{_∈_, next}
 use Rattle.writing.specs.Writing.{wholeLength}
 use Rattle.station.specs.Asked.{CanSend, asked-back}
 use Rattle.station.specs.Asking as asking
-use Rattle.station.specs.Calls.{Call, start, hear, after, refusedBy, taken, verdict}
-use Rattle.station.specs.Data.{gathered}
-use Rattle.station.specs.Hearing as hearing
-use Rattle.station.specs.Refusing.{Spared, same, turnedOff, refused-left}
-use Rattle.station.specs.State.{holds, isParticipating}
-use Rattle.station.specs.Ticking.{tickOf, watchEnds}
+use Rattle.station.specs.State.{holds}
 use Rattle.station.specs.Token.{viewHeard, viewAfter}
-use Rattle.station.specs.Waits.{watchTicks}
-use Rattle.station.specs.declared.Asked.{Asked}
 use Rattle.station.specs.declared.Asked.the-variants as answers
 use Rattle.station.specs.declared.Phase.the-variants.{Participating}
 use Rattle.station.specs.declared.Station.{Station}
-use Rattle.ring.specs.Events.{Stations, Lent, Event, asked, ticked, stray, handed, afterEvent, passIf, writesToken, effectOf, viewsOf, Stray, CanCome}
-use Rattle.ring.specs.Hears.{accepts}
-use Rattle.ring.specs.Member.{InRing, next-same, restarted-in, cleared-kept, missed-kept, sent-in, listed}
+use Rattle.ring.specs.Events.{Stations}
+use Rattle.ring.specs.Member.{InRing, next-same}
 
 -- what is kept of the whole ring
 pub record Ok (numbers : List ℕ) (stations : Stations) : Type 0 where
@@ -45,14 +33,6 @@ pub record Ok (numbers : List ℕ) (stations : Stations) : Type 0 where
   -- equal watch times, and equal times since the watch restarted
   pub watch : (n m : ℕ) → n ∈ numbers → m ∈ numbers → stations n .own .watch .0 ≡ stations m .own .watch .0
   pub elapsed : (n m : ℕ) → n ∈ numbers → m ∈ numbers → stations n .elapsed .0 ≡ stations m .elapsed .0
-
--- A view after a token frame, said by the stations and by the ring of views.
-pub same-move : (numbers : List ℕ) (who view : ℕ) → viewAfter view who (next numbers who) ≡ viewAfterPass numbers who view
-same-move numbers who view = by (ℕ-discrete who view)
-  where
-    by : Dec (who ≡ view) → viewAfter view who (next numbers who) ≡ viewAfterPass numbers who view
-    by (yes e) = rw (eq-eqb who view e, eq-eqb view who (sym e))
-    by (no n) = rw (ne-eqb who view n, ne-eqb view who (λ e. n (sym e)))
 
 -- the smaller of two numbers of the ring is one of them
 min-in : (numbers : List ℕ) (a b : ℕ) → a ∈ numbers → b ∈ numbers → min a b ∈ numbers

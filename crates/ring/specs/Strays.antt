@@ -1,33 +1,28 @@
 -- A stray is nothing to the views of the ring. Assumes nothing.
 use mathlib.Core.Path.{_≡_, refl, ap, sym, subst, _∙_}
-use mathlib.Core.Bool.{Bool, true, false, cond, not, _&&_, and-false, false≢true}
+use mathlib.Core.Bool.{Bool, true, false, false≢true}
 use mathlib.Core.List.{List}
 use Prim.Native.Nat.{ℕ}
 use native.Mathlib.Decide.{ℕ-discrete}
-use native.Mathlib.Omega.{arith}
 use lib.Dec.{eqb}
-use lib.ListN.{length}
-use borrow.Author.Tests.{eq-eqb, ne-eqb, eqb-false}
+use borrow.Author.Tests.{eq-eqb, ne-eqb}
 use Rattle.frame.specs.Codes.{isCyclic}
 use Rattle.frame.specs.declared.Code.{Code}
 use Rattle.frame.specs.declared.Code.the-variants.{Token, Cyclic, Request, Trigger}
 use Rattle.frame.specs.declared.Fields.{Fields}
-use Rattle.frame.specs.declared.Refusal.the-variants as refusals
-use Rattle.members.specs.Listing.{listing}
-use Rattle.reading.specs.Reading.{readBodyOf, readHeaderOf, readOf}
+use Rattle.reading.specs.Reading.{readOf}
 use Rattle.reading.specs.declared.Read.the-variants.{Frame}
 use Rattle.round_trip.specs.Accepted.{Accepted, accepted}
 use Rattle.settling.specs.Ring.{_∈_}
-use Rattle.settling.specs.Simulation.{nothing, Moved}
-use Rattle.station.specs.Calls.{Call, start, hear, after, refusedBy, verdict}
+use Rattle.settling.specs.Simulation.{Moved}
+use Rattle.station.specs.Calls.{Call, start, after, refusedBy, verdict}
 use Rattle.station.specs.Hearing as hearing
 use Rattle.station.specs.Refusing.{Spared, same, turnedOff, refused-left}
-use Rattle.station.specs.Starting.{oursDue}
 use Rattle.station.specs.State.{isParticipating}
 use Rattle.station.specs.declared.Phase.{Phase}
 use Rattle.station.specs.declared.Phase.the-variants.{Participating}
 use Rattle.station.specs.declared.Station.{Station}
-use Rattle.ring.specs.Events.{Stations, Event, stray, afterEvent, effectOf, viewsOf, Stray, refused, starts, harmless, CanCome}
+use Rattle.ring.specs.Events.{Stations, stray, afterEvent, effectOf, viewsOf, Stray, refused, starts, harmless, CanCome}
 use Rattle.ring.specs.Hears.{header-read, body-read}
 use Rattle.ring.specs.Lists.{ring-kept}
 use Rattle.ring.specs.Member.{InRing, listed}

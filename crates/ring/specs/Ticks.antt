@@ -1,19 +1,17 @@
 -- A tick is a silence at all stations alike, or nothing, to the views of the ring. Assumes nothing.
 use mathlib.Core.Path.{_≡_, refl, ap, ap₂, sym, subst, _∙_}
-use mathlib.Core.Bool.{Bool, true, false, cond, false≢true}
+use mathlib.Core.Bool.{Bool, true, false, cond}
 use mathlib.Core.List.{List}
 use Prim.Native.Nat.{ℕ, _+_, _*_, min}
-use lib.Dec.{eqb, leb}
+use lib.Dec.{leb}
 use borrow.Author.Tests.{eqb-false}
-use Rattle.members.specs.Members.{firstOf, nextAfter, isListed, strikes, missed}
+use Rattle.members.specs.Members.{firstOf, nextAfter, missed}
 use Rattle.panel.specs.Panel.{ticked as panelTicked}
 use Rattle.settling.specs.Ring.{_∈_, next, silence}
-use Rattle.settling.specs.Simulation.{Effect, makes, nothing, Moved}
-use Rattle.station.specs.State.{holds}
-use Rattle.station.specs.Ticking.{tickOf, watchEnds, watchEnded, counted, later}
-use Rattle.station.specs.declared.Settings.{Settings}
+use Rattle.settling.specs.Simulation.{makes, nothing, Moved}
+use Rattle.station.specs.Ticking.{watchEnds, watchEnded, counted, later}
 use Rattle.station.specs.declared.Station.{Station}
-use Rattle.ring.specs.Events.{Stations, Event, ticked, afterEvent, effectOf, viewsOf, CanCome}
+use Rattle.ring.specs.Events.{Stations, ticked, afterEvent, effectOf, viewsOf, CanCome}
 use Rattle.ring.specs.Member.{InRing, next-same, restarted-in, missed-kept}
 use Rattle.ring.specs.Steps.{Ok}
 

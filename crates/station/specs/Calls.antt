@@ -2,8 +2,6 @@
 use Prim.Native.Nat.{ℕ}
 use mathlib.Core.List.{List, [], _∷_}
 use Rattle.frame.specs.declared.Refusal.{Refusal}
-use Rattle.panel.specs.Panel.{figureOf}
-use Rattle.panel.specs.declared.Figure.{Figure}
 use Rattle.station.specs.Asking.{askOf}
 use Rattle.station.specs.Hearing.{hearOf}
 use Rattle.station.specs.Starting.{startOf, stopOf}
@@ -16,7 +14,6 @@ use Rattle.station.specs.declared.Settings.{Settings}
 use Rattle.station.specs.declared.Station.{Station}
 use Rattle.station.specs.declared.Switched.{Switched}
 use Rattle.station.specs.declared.Switched.the-variants as switched
-use Rattle.station.specs.declared.Ticked.{Ticked}
 
 -- a call with its arguments: hearing borrows the common memory and the assembly buffer, asking the common memory, the turn buffer and the
 -- output

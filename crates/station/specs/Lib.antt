@@ -12,6 +12,7 @@ pub mod Calls
 -- Theorems.
 pub mod Refusing
 pub mod Asked
+pub mod Laws
 -- Demand 2, the panel: what the history of the calls says, and that the panel shows it.
 pub mod History
 pub mod Showing
