@@ -1,7 +1,7 @@
 -- A ring of three stations that meets the premises of demand 3, with two holders, and one pass that settles it. Assumes nothing.
 use mathlib.Core.Path.{_≡_, refl, ap, sym, subst, _∙_}
 use mathlib.Core.Bool.{Bool, true, false, cond, _&&_, false≢true}
-use mathlib.Core.Logic.{_⊎_, inl, inr}
+use mathlib.Core.Logic.{inr}
 use mathlib.Core.List.{List, [], _∷_, _++_, List·Memᴰ·head, List·Memᴰ·tail}
 use Prim.Native.Nat.{ℕ, zero, suc, _+_, _<_}
 use native.Mathlib.Omega.{arith}
@@ -13,7 +13,6 @@ use Rattle.frame.specs.declared.Fields.{Fields}
 use Rattle.frame.specs.declared.Refusal.the-variants as refusals
 use Rattle.members.specs.Members.{ringOf}
 use Rattle.reading.specs.Reading.{fieldsOf, readOf}
-use Rattle.reading.specs.declared.Read.the-variants.{Frame}
 use Rattle.round_trip.specs.Sent.{blockFields}
 use Rattle.settling.specs.First.{FirstAgreement}
 use Rattle.settling.specs.Next.{ascending-cons}
@@ -22,16 +21,16 @@ use Rattle.settling.specs.Simulation.{AllAgreed, MachineSettles, made}
 use Rattle.station.specs.Asking.{askOf, dueFields, dueIn, lentRight, nextBlock, nextStation, refused, turnAfter, written}
 use Rattle.station.specs.Calls.{Call, start, tick, hear, ask, after}
 use Rattle.station.specs.History.{stateAfter}
-use Rattle.station.specs.Reachable.{Reachable, unstarted, called, Typed, TypedSettings}
+use Rattle.station.specs.Reachable.{Reachable, unstarted, called, TypedSettings}
 use Rattle.station.specs.State.{never, holds}
 use Rattle.station.specs.declared.Phase.the-variants.{Participating}
 use Rattle.station.specs.declared.Settings.{Settings}
 use Rattle.station.specs.declared.Station.{Station}
 use Rattle.units.specs.declared.Milliseconds.{Milliseconds}
 use Rattle.writing.specs.Writing.{noAreas, frameOf, outputOf, headerOf, frontOf, backOf, fixedFor}
-use Rattle.ring.specs.DemandThree.{demand-three}
 use Rattle.ring.specs.Demand.{LastCall, sent, heard, Disturbed}
-use Rattle.ring.specs.Events.{Stations, Lent, Event, asked, afterEvent, ringMachine, CanCome}
+use Rattle.ring.specs.DemandThree.{demand-three}
+use Rattle.ring.specs.Events.{Stations, Event, asked, afterEvent, ringMachine, CanCome}
 
 -- all stations have no areas, so that a turn is one block, and a watch time of 20 ms
 abbrev watch : Milliseconds
@@ -71,12 +70,12 @@ small-at : (octets : List ℕ) → small octets ≡ true → (at : ℕ) → getD
 small-at [] t at = omega arith
 small-at (octet ∷ rest) t at = small-cons (ltb octet 256) octet rest refl t (λ k s. small-at rest s k) at
 
--- what calls leave after the first of two frames, three times over, and a last frame
+-- a station is started and hears two frames, which make a round, three times over; then a last one, whose destination becomes its view
 abbrev rounds : ℕ → List ℕ → List ℕ → List ℕ → List Call
 rounds number a b c =
     start (settingsOf number) ∷ hears a ∷ hears b ∷ hears a ∷ hears b ∷ hears a ∷ hears b ∷ hears c ∷ []
 
--- a station that has heard them, has waited for its number and has sent its request
+-- the station that has heard them, has waited for its number and has sent its request
 abbrev up : ℕ → ℕ → List ℕ → List ℕ → List ℕ → Station
 up number ticks a b c = after (stateAfter (stateAfter never (rounds number a b c)) (replicate ticks tick)) asks
 
@@ -114,14 +113,14 @@ up-reached number ticks a b c n p q r =
       watch = omega arith;
     }
 
--- the three stations, each holding
-abbrev one : Station
+-- the three stations, brought up from off, each with itself in view
+abbrev pub one : Station
 one = up 1 40 (tokenOctets 2 3) (tokenOctets 3 2) (tokenOctets 3 1)
 
-abbrev two : Station
+abbrev pub two : Station
 two = up 2 80 (tokenOctets 1 3) (tokenOctets 3 1) (tokenOctets 3 2)
 
-abbrev three : Station
+abbrev pub three : Station
 three = up 3 120 (tokenOctets 1 2) (tokenOctets 2 1) (tokenOctets 1 3)
 
 one-reached : Reachable one
@@ -135,6 +134,10 @@ two-reached = up-reached 2 80 (tokenOctets 1 3) (tokenOctets 3 1) (tokenOctets 3
 three-reached : Reachable three
 unfolding headerOf frontOf backOf fixedFor fieldsOf
 three-reached = up-reached 3 120 (tokenOctets 1 2) (tokenOctets 2 1) (tokenOctets 1 3) refl refl refl refl
+
+pub all-held : (holds one ≡ true) × (holds two ≡ true) × (holds three ≡ true)
+unfolding headerOf frontOf backOf fixedFor fieldsOf
+all-held = (refl, refl, refl)
 
 -- Station 2 passes the token to station 3, and the others hear it: this is the last call of each.
 abbrev pub passed : List ℕ
@@ -170,8 +173,8 @@ unfolding headerOf frontOf backOf fixedFor fieldsOf
 one-last = heard one large large one-reached (small-at passed passed-small) refl
 
 -- the fields of the frame that a participant 2 writes whose next is 3
-due-is : (station : Station) → station .phase ≡ Participating → station .own ≡ settingsOf 2 → nextStation station ≡ 3 → station .block ≡ 0
-    → dueFields (station .phase) station ≡ tokenFields 2 3
+due-is : (station : Station) → station .phase ≡ Participating → station .own ≡ settingsOf 2 → nextStation station ≡ 3
+    → station .block ≡ 0 → dueFields (station .phase) station ≡ tokenFields 2 3
 due-is station phase own next block =
     ap (λ p. dueFields p station) phase
     ∙ ap (λ (o : Settings). blockFields (o .number) (nextStation station) (o .areas) (o .watch) (nextBlock station)) own
@@ -187,7 +190,8 @@ written-is fields turn e =
     (le-leb 0 (length turn) (omega arith))
 
 -- a station that has a frame due writes it
-asked-written : (station : Station) (memory turn output : List ℕ) → lentRight memory turn output ≡ true → dueIn (station .phase) station ≡ true
+asked-written : (station : Station) (memory turn output : List ℕ) → lentRight memory turn output ≡ true
+    → dueIn (station .phase) station ≡ true
     → askOf station memory turn output ≡ written station (turnAfter (station .phase) station memory turn) output
 asked-written station memory turn output right due =
     ap (λ (t : Bool). cond t (cond (dueIn (station .phase) station) (written station (turnAfter (station .phase) station memory turn) output)
@@ -195,8 +199,8 @@ asked-written station memory turn output right due =
     ∙ ap (λ (t : Bool). cond t (written station (turnAfter (station .phase) station memory turn) output)
     (refused station turn output refusals.NotDue)) due
 
-writes : (station : Station) → station .phase ≡ Participating → station .own ≡ settingsOf 2 → nextStation station ≡ 3 → station .block ≡ 0
-    → dueIn (station .phase) station ≡ true → take 64 (askOf station large large (replicate 1088 0) .output) ≡ passed
+writes : (station : Station) → station .phase ≡ Participating → station .own ≡ settingsOf 2 → nextStation station ≡ 3
+    → station .block ≡ 0 → dueIn (station .phase) station ≡ true → take 64 (askOf station large large (replicate 1088 0) .output) ≡ passed
 writes station phase own next block due =
     ap (λ a. take 64 (a .output)) (asked-written station large large (replicate 1088 0) refl due)
     ∙ written-is (dueFields (station .phase) station) (drop (startOf (nextBlock station)) (turnAfter (station .phase) station large large))
@@ -276,6 +280,6 @@ first = record {
   reached = inr (λ n m p q. views-after n p ∙ sym (views-after m q));
 }
 
--- so that demand 3 speaks of it
+-- and so demand 3 holds of it
 pub settled : MachineSettles (ringMachine numbers) numbers stations (event ∷ []) []
 settled = demand-three worked (can-come, tt) first
