@@ -152,9 +152,6 @@ numbers = 1 ∷ 2 ∷ 3 ∷ []
 at-1 : 1 ∈ numbers
 at-1 = List·Memᴰ·head refl
 
-at-2 : 2 ∈ numbers
-at-2 = List·Memᴰ·tail (List·Memᴰ·head refl)
-
 at-3 : 3 ∈ numbers
 at-3 = List·Memᴰ·tail (List·Memᴰ·tail (List·Memᴰ·head refl))
 
