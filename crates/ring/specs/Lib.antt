@@ -11,3 +11,4 @@ pub mod Strays
 pub mod Demand
 pub mod Just
 pub mod DemandThree
+pub mod Worked
