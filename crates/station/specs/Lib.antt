@@ -33,3 +33,5 @@ pub mod KeepsAsking
 pub mod Apart
 pub mod ApartTicking
 pub mod ApartHearing
+-- What hearing a frame does to the common memory.
+pub mod Memory
