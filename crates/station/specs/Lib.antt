@@ -35,3 +35,6 @@ pub mod ApartTicking
 pub mod ApartHearing
 -- What hearing a frame does to the common memory.
 pub mod Memory
+pub mod Places
+pub mod OursKept
+pub mod TurnWritten

@@ -11,7 +11,6 @@ use Rattle.block.specs.Blocks as blocks
 use Rattle.copying.specs.Pasted.{pasted}
 use Rattle.frame.specs.Codes.{isToken, isCyclic}
 use Rattle.frame.specs.declared.Fields.{Fields}
-use Rattle.frame.specs.declared.Refusal.{Refusal}
 use Rattle.frame.specs.declared.Refusal.the-variants as refusals
 use Rattle.members.specs.Members.{entryOf, isListed}
 use Rattle.reading.specs.Reading as reading

@@ -1,19 +1,17 @@
 -- The common memory octet by octet, where a turn is written; and our own areas, which no frame writes. Assumes nothing.
-use mathlib.Core.Path.{_≡_, refl, sym, ap, ap₂, _∙_}
-use mathlib.Core.Bool.{Bool, true, false, _&&_, _||_, false≢true}
-use mathlib.Core.List.{List, _++_, append-assoc}
+use mathlib.Core.Path.{_≡_, refl, sym, ap, _∙_}
+use mathlib.Core.Bool.{Bool, true, false}
+use mathlib.Core.List.{List, _++_}
 use Prim.Native.Nat.{ℕ, _+_, _-_, _*_, _≤_, _<_, min}
 use native.Mathlib.Omega.{arith}
-use lib.Dec.{eqb, leb}
-use lib.ListN.{length, take, drop, getD, length-append, length-take, length-drop, List·getD-append}
+use lib.Dec.{leb}
+use lib.ListN.{length, take, drop, getD, length-take, length-drop, List·getD-append}
 use lib.Seq.{getD-append-add, getD-take, getD-drop}
-use borrow.Author.Tests.{leb-true, leb-false, eqb-true}
+use borrow.Author.Tests.{leb-true, leb-false}
 use Rattle.laws.specs.Tests.{first, second}
 use Rattle.area.specs.Areas.{inArea, inRange, spanOf, memoryOctets}
 use Rattle.area.specs.declared.Areas.{Areas}
-use Rattle.area.specs.declared.Area.{Area}
 use Rattle.area.specs.declared.Area.the-variants.{One, Two}
-use Rattle.area.specs.declared.Part.{Part}
 use Rattle.area.specs.declared.Span.{Span}
 use Rattle.copying.specs.Laws.{length-pasted}
 use Rattle.copying.specs.Pasted.{pasted}
@@ -56,40 +54,52 @@ module _ (d s : List ℕ) (at : ℕ) (fits : at + length s ≤ length d) where
       by false b e f = paste-before i (leb-false at i e)
 
 -- a turn written to areas in range
-module _ (areas : Areas) (turn memory : List ℕ) (ranged : inRange areas ≡ true) (long : length memory ≡ memoryOctets) (whole : length turn ≡ memoryOctets) where
+module _ (areas : Areas) (turn memory : List ℕ) (ranged : inRange areas ≡ true) (long : length memory ≡ memoryOctets) where
   one : areas .one .address + areas .one .size ≤ 512
   one = leb-true (areas .one .address + areas .one .size) 512 (first (inArea One (areas .one)) (inArea Two (areas .two)) ranged)
 
   two : areas .two .address + areas .two .size ≤ 8192
   two = leb-true (areas .two .address + areas .two .size) 8192 (second (inArea One (areas .one)) (inArea Two (areas .two)) ranged)
 
-  one-octets : List ℕ
+  abbrev one-octets : List ℕ
   one-octets = take (2 * areas .one .size) turn
 
-  two-octets : List ℕ
+  abbrev two-octets : List ℕ
   two-octets = take (2 * areas .two .size) (drop (2 * areas .one .size) turn)
 
-  one-long : length one-octets ≡ 2 * areas .one .size
-  one-long = let a = one in length-take (2 * areas .one .size) turn ∙ omega arith
+  one-short : length one-octets ≤ 2 * areas .one .size
+  one-short = let l : length one-octets ≡ min (2 * areas .one .size) (length turn) = length-take (2 * areas .one .size) turn in omega arith
 
-  two-long : length two-octets ≡ 2 * areas .two .size
-  two-long =
+  two-short : length two-octets ≤ 2 * areas .two .size
+  two-short = let l : length two-octets ≡ min (2 * areas .two .size) (length (drop (2 * areas .one .size) turn)) =
+      length-take (2 * areas .two .size) (drop (2 * areas .one .size) turn) in omega arith
+
+  one-long : memoryOctets ≤ length turn → 2 * areas .one .size ≤ length one-octets
+  one-long whole =
+      let a = one in
+      let l : length one-octets ≡ min (2 * areas .one .size) (length turn) = length-take (2 * areas .one .size) turn in
+      omega arith
+
+  two-long : memoryOctets ≤ length turn → 2 * areas .two .size ≤ length two-octets
+  two-long whole =
       let a = one in
       let b = two in
       let rest = length-drop (2 * areas .one .size) turn in
-      length-take (2 * areas .two .size) (drop (2 * areas .one .size) turn) ∙ omega arith
+      let l : length two-octets ≡ min (2 * areas .two .size) (length (drop (2 * areas .one .size) turn)) =
+      length-take (2 * areas .two .size) (drop (2 * areas .one .size) turn) in
+      omega arith
 
-  first-written : List ℕ
+  abbrev first-written : List ℕ
   first-written = pasted memory (spanOf One (areas .one) .start) one-octets
 
   one-fits : spanOf One (areas .one) .start + length one-octets ≤ length memory
-  one-fits = let a = one in let l = one-long in omega arith
+  one-fits = let a = one in let l = one-short in omega arith
 
   first-long : length first-written ≡ length memory
   first-long = length-pasted memory one-octets (spanOf One (areas .one) .start) one-fits
 
   two-fits : spanOf Two (areas .two) .start + length two-octets ≤ length first-written
-  two-fits = let b = two in let l = two-long in let m = first-long in omega arith
+  two-fits = let b = two in let l = two-short in let m = first-long in omega arith
 
   -- it stays as long
   pub written-length : length (turnWritten areas turn memory) ≡ length memory
@@ -99,28 +109,28 @@ module _ (areas : Areas) (turn memory : List ℕ) (ranged : inRange areas ≡ tr
   pub written-outside : (at : ℕ) → (In (spanOf One (areas .one)) at → ⊥) → (In (spanOf Two (areas .two)) at → ⊥)
       → getD (turnWritten areas turn memory) at 0 ≡ getD memory at 0
   written-outside at not-one not-two =
-      let l = one-long in
-      let m = two-long in
+      let l = one-short in
+      let m = two-short in
       paste-outside first-written two-octets (spanOf Two (areas .two) .start) two-fits at
       (λ f b. not-two (record { from = f; before = omega arith }))
       ∙ paste-outside memory one-octets (spanOf One (areas .one) .start) one-fits at
       (λ f b. not-one (record { from = f; before = omega arith }))
 
   -- an octet of the span in area 1 is the turn's at that place
-  pub written-one : (i : ℕ) → i < 2 * areas .one .size
+  pub written-one : memoryOctets ≤ length turn → (i : ℕ) → i < 2 * areas .one .size
       → getD (turnWritten areas turn memory) (spanOf One (areas .one) .start + i) 0 ≡ getD turn i 0
-  written-one i h =
+  written-one whole i h =
       let a = one in
-      let l = one-long in
+      let l = one-long whole in
       paste-before first-written two-octets (spanOf Two (areas .two) .start) two-fits (spanOf One (areas .one) .start + i) (omega arith)
       ∙ paste-in memory one-octets (spanOf One (areas .one) .start) one-fits i (omega arith)
       ∙ getD-take (2 * areas .one .size) turn i 0 h
 
   -- an octet of the span in area 2 is the turn's behind those of area 1
-  pub written-two : (i : ℕ) → i < 2 * areas .two .size
+  pub written-two : memoryOctets ≤ length turn → (i : ℕ) → i < 2 * areas .two .size
       → getD (turnWritten areas turn memory) (spanOf Two (areas .two) .start + i) 0 ≡ getD turn (2 * areas .one .size + i) 0
-  written-two i h =
-      let m = two-long in
+  written-two whole i h =
+      let m = two-long whole in
       paste-in first-written two-octets (spanOf Two (areas .two) .start) two-fits i (omega arith)
       ∙ getD-take (2 * areas .two .size) (drop (2 * areas .one .size) turn) i 0 h
       ∙ getD-drop (2 * areas .one .size) turn i 0
