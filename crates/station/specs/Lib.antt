@@ -38,3 +38,4 @@ pub mod Memory
 pub mod Places
 pub mod OursKept
 pub mod TurnWritten
+pub mod TurnJoined

@@ -47,7 +47,7 @@ pasted-long d s at =
     simp (length-append, length-take, length-drop) in
     omega arith
 
-assembly-long : (memory assembly : List ℕ) → lentRight memory assembly ≡ true → length assembly ≡ memoryOctets
+pub assembly-long : (memory assembly : List ℕ) → lentRight memory assembly ≡ true → length assembly ≡ memoryOctets
 assembly-long memory assembly e = eqb-true (length assembly) 17408 (second (eqb (length memory) 17408) (eqb (length assembly) 17408) e)
 
 still-long : (assembly turn s : List ℕ) (at : ℕ) → length assembly ≡ memoryOctets → turn ≡ pasted assembly at s → memoryOctets ≤ length turn
