@@ -5,14 +5,14 @@ use mathlib.Core.List.{List, _++_, append-assoc}
 use mathlib.Core.Bool.{Bool, true, false, not, _&&_, _||_}
 use Prim.Native.Nat.{ℕ, _+_, _-_, _≤_}
 use native.Mathlib.Omega.{arith}
-use lib.Dec.{eqb, leb}
+use lib.Dec.{eqb}
 use lib.ListN.{length, take, drop, length-append, length-take, length-drop}
 use lib.Seq.{take-at}
-use borrow.Author.Tests.{eqb-true, leb-true}
+use borrow.Author.Tests.{eqb-true}
 use Rattle.laws.specs.Tests.{first, second, implied}
 use Rattle.area.specs.Areas.{memoryOctets}
 use Rattle.area.specs.declared.Areas.{Areas}
-use Rattle.block.specs.Blocks.{octetsOf, blocksOf, startOf, lengthOf}
+use Rattle.block.specs.Blocks.{octetsOf, blocksOf, startOf}
 use Rattle.block.specs.Cut as cut
 use Rattle.copying.specs.Pasted.{pasted}
 use Rattle.frame.specs.Codes.{isCyclic}
@@ -22,6 +22,7 @@ use Rattle.members.specs.Members.{entryOf}
 use Rattle.reading.specs.Reading as reading
 use Rattle.reading.specs.Reading.{readBodyOf, blocked}
 use Rattle.reading.specs.declared.Read.the-variants.{Frame}
+use Rattle.round_trip.specs.Shown.{Blocked, is-blocked}
 use Rattle.station.specs.Answers.{dataOf}
 use Rattle.station.specs.Data.{sameAreas}
 use Rattle.station.specs.Hearing.{hearOf}
@@ -43,28 +44,6 @@ body-blocked given frame other e cyclic =
     by true true e = refl
     by true false e = let z : _≡_ {A = ℕ} 0 1 = cc in absurd (omega arith)
     by false b e = let z : _≡_ {A = ℕ} 0 1 = cc in absurd (omega arith)
-
--- what test 8 says
-record Blocked (given : ℕ) (frame : Fields) : Type 0 where
-  total : frame .blocks ≡ blocksOf (frame .areas)
-  from : 1 ≤ frame .block
-  size : frame .size ≡ lengthOf (frame .areas) (frame .block)
-  behind : 64 ≤ given - frame .size
-
-blocked-is : (given : ℕ) (frame : Fields) → blocked given frame ≡ true → Blocked given frame
-blocked-is given frame e =
-    let a = eqb (frame .blocks) (blocksOf (frame .areas)) in
-    let b = leb 1 (frame .block) && leb (frame .block) (frame .blocks) in
-    let c = eqb (frame .size) (lengthOf (frame .areas) (frame .block)) in
-    let d = leb 64 (given - frame .size) && leb (given - frame .size) 96 in
-    let bcd = second a (b && (c && d)) e in
-    let cd = second b (c && d) bcd in
-    record {
-      total = eqb-true (frame .blocks) (blocksOf (frame .areas)) (first a (b && (c && d)) e);
-      from = leb-true 1 (frame .block) (first (leb 1 (frame .block)) (leb (frame .block) (frame .blocks)) (first b (c && d) bcd));
-      size = eqb-true (frame .size) (lengthOf (frame .areas) (frame .block)) (first c d cd);
-      behind = leb-true 64 (given - frame .size) (first (leb 64 (given - frame .size)) (leb (given - frame .size) 96) (second c d cd));
-    }
 
 -- the data of a cyclic frame
 data-long : (octets : List ℕ) (frame : Fields) → isCyclic (frame .code) ≡ true → 64 ≤ length octets - frame .size
@@ -116,11 +95,11 @@ turn-joined station reached octets memory assembly token e w =
     let frame : Fields = found .0 in
     let whole : Whole station octets memory assembly frame = found .1 in
     let stored = found .2 in
-    let facts = blocked-is (length octets) frame (body-blocked (length octets) frame frame (whole .body) (whole .cyclic)) in
+    let facts = is-blocked (length octets) frame (body-blocked (length octets) frame frame (whole .body) (whole .cyclic)) in
     let ranged = sound station reached .list .each (frame .source) (whole .listed) .areas in
     let listed : Areas = entryOf (station .members) (frame .source) .areas in
     let ended = ends frame listed (reading.dataOf octets frame) facts (eqb-true (frame .block) (frame .blocks) (whole .last)) (whole .areas)
-    (data-long octets frame (whole .cyclic) (facts .behind)) in
+    (data-long octets frame (whole .cyclic) (facts .least)) in
     let long = assembly-long memory assembly (whole .lent) in
     let room = cut.fits listed ranged in
     let start : startOf (frame .block) ≤ length assembly = below (startOf (frame .block)) _ _ _ ended room long in (
