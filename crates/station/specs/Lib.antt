@@ -39,3 +39,6 @@ pub mod Places
 pub mod OursKept
 pub mod TurnWritten
 pub mod TurnJoined
+pub mod Gathers
+pub mod GathersHeard
+pub mod TurnWhole

@@ -85,7 +85,7 @@ data-outcome station frame outcome =
     by false false false false = refl
 
 -- an off station is no participant
-not-off : (phase : Phase) → isParticipating phase ≡ true → isOff phase ≡ false
+pub not-off : (phase : Phase) → isParticipating phase ≡ true → isOff phase ≡ false
 not-off Off e = absurd (false≢true e)
 not-off Listening e = refl
 not-off Startup e = refl
@@ -93,18 +93,18 @@ not-off Joining e = refl
 not-off Participating e = refl
 
 -- whoever is no stranger, and is not ourselves, is listed
-known-listed : (off ours listed rest : Bool) → (not off && ours) ≡ false → off ≡ false → not ((ours || listed) && rest) ≡ false → listed ≡ true
+pub known-listed : (off ours listed rest : Bool) → (not off && ours) ≡ false → off ≡ false → not ((ours || listed) && rest) ≡ false → listed ≡ true
 known-listed true ours listed rest a b c = absurd (false≢true (sym b))
 known-listed false true listed rest a b c = absurd (false≢true (sym a))
 known-listed false false true rest a b c = refl
 known-listed false false false rest a b c = absurd (false≢true (sym c))
 
-rest-fails : (a b : Bool) → a ≡ true → (a && b) ≡ false → b ≡ false
+pub rest-fails : (a b : Bool) → a ≡ true → (a && b) ≡ false → b ≡ false
 rest-fails true b p e = e
 rest-fails false b p e = absurd (false≢true p)
 
 -- the second part of reading gives the fields it was given
-body-frame : (given : ℕ) (f g : Fields) → readBodyOf given f ≡ Frame g → f ≡ g
+pub body-frame : (given : ℕ) (f g : Fields) → readBodyOf given f ≡ Frame g → f ≡ g
 body-frame given f g = by (reading.ranged f) (not (isCyclic (f .code)) || reading.blocked given f)
   where
     by : (a b : Bool) → reading.need a refusals.Area (reading.need b refusals.Block (Frame f)) ≡ Frame g → f ≡ g

@@ -36,7 +36,7 @@ use Rattle.station.specs.declared.Station.{Station}
 use Rattle.station.specs.declared.Token.{Token}
 
 -- a cyclic frame that was read has the blocks that its areas give
-body-blocked : (given : ℕ) (frame other : Fields) → readBodyOf given frame ≡ Frame other → isCyclic (frame .code) ≡ true → blocked given frame ≡ true
+pub body-blocked : (given : ℕ) (frame other : Fields) → readBodyOf given frame ≡ Frame other → isCyclic (frame .code) ≡ true → blocked given frame ≡ true
 body-blocked given frame other e cyclic =
     implied (isCyclic (frame .code)) (blocked given frame) (by (reading.ranged frame) (not (isCyclic (frame .code)) || blocked given frame) e) cyclic
   where
@@ -46,7 +46,7 @@ body-blocked given frame other e cyclic =
     by false b e = let z : _≡_ {A = ℕ} 0 1 = cc in absurd (omega arith)
 
 -- the data of a cyclic frame
-data-long : (octets : List ℕ) (frame : Fields) → isCyclic (frame .code) ≡ true → 64 ≤ length octets - frame .size
+pub data-long : (octets : List ℕ) (frame : Fields) → isCyclic (frame .code) ≡ true → 64 ≤ length octets - frame .size
     → length (reading.dataOf octets frame) ≡ frame .size
 data-long octets frame cyclic behind =
     let size : reading.dataSize frame ≡ frame .size = rw cyclic in
@@ -54,7 +54,7 @@ data-long octets frame cyclic behind =
     omega arith
 
 -- the same sizes make the same turn
-same-octets : (a b : Areas) → sameAreas a b ≡ true → octetsOf a ≡ octetsOf b
+pub same-octets : (a b : Areas) → sameAreas a b ≡ true → octetsOf a ≡ octetsOf b
 same-octets a b e =
     let one = first (eqb (a .one .address) (b .one .address) && eqb (a .one .size) (b .one .size)) (eqb (a .two .address) (b .two .address) && eqb (a .two .size) (b .two .size)) e in
     let two = second (eqb (a .one .address) (b .one .address) && eqb (a .one .size) (b .one .size)) (eqb (a .two .address) (b .two .address) && eqb (a .two .size) (b .two .size)) e in
@@ -63,7 +63,7 @@ same-octets a b e =
     rw (p, q)
 
 -- what stands up to the end of what was put in
-taken-through : (d s : List ℕ) (at end : ℕ) → at ≤ length d → at + length s ≡ end → take end (pasted d at s) ≡ take at d ++ s
+pub taken-through : (d s : List ℕ) (at end : ℕ) → at ≤ length d → at + length s ≡ end → take end (pasted d at s) ≡ take at d ++ s
 taken-through d s at end h e =
     let front : length (take at d ++ s) ≡ end = length-append (take at d) s ∙ rw (length-take at d) (omega arith) in
     ap (take end) (sym (append-assoc (take at d) s (drop (at + length s) d))) ∙ take-at (take at d ++ s) (drop (at + length s) d) end front
@@ -71,7 +71,7 @@ taken-through d s at end h e =
 joined-long : (d s : List ℕ) (at end : ℕ) → at ≤ length d → at + length s ≡ end → length (take at d ++ s) ≡ end
 joined-long d s at end h e = length-append (take at d) s ∙ rw (length-take at d) (omega arith)
 
-below : (at s end all : ℕ) → at + s ≡ end → end ≤ memoryOctets → all ≡ memoryOctets → at ≤ all
+pub below : (at s end all : ℕ) → at + s ≡ end → end ≤ memoryOctets → all ≡ memoryOctets → at ≤ all
 below at s end all e h l = omega arith
 
 -- the last block ends with the turn
