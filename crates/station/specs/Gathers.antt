@@ -8,6 +8,7 @@ use lib.Dec.{eqb}
 use lib.ListN.{length, take}
 use borrow.Author.Tests.{eqb-true}
 use Rattle.block.specs.Blocks.{startOf}
+use Rattle.frame.specs.Codes.{isCyclic}
 use Rattle.frame.specs.declared.Code.{Code}
 use Rattle.frame.specs.declared.Code.the-variants.{Token, Cyclic, Request, Trigger}
 use Rattle.frame.specs.declared.Fields.{Fields}
@@ -22,11 +23,11 @@ use Rattle.station.specs.declared.Phase.{Phase}
 use Rattle.station.specs.declared.Phase.the-variants.{Off, Listening, Startup, Joining, Participating}
 use Rattle.station.specs.declared.Station.{Station}
 
--- blocks 1 to n of a source, each read from octets that were heard, and their data one behind the other
+-- blocks 1 to n of a source, each read as a cyclic frame from some octets, and their data one behind the other
 pub data Parts (source : ℕ) : ℕ → List ℕ → Type 0 where
   none : Parts source 0 []
   more : {n : ℕ} {part : List ℕ} → Parts source n part → (octets : List ℕ) (frame : Fields)
-      → readHeaderOf octets ≡ Frame frame → readBodyOf (length octets) frame ≡ Frame frame → frame .source ≡ source → frame .block ≡ n + 1
+      → readHeaderOf octets ≡ Frame frame → readBodyOf (length octets) frame ≡ Frame frame → isCyclic (frame .code) ≡ true → frame .source ≡ source → frame .block ≡ n + 1
       → Parts source (frame .block) (part ++ reading.dataOf octets frame)
 
 -- what is gathered stands at the front of the assembly buffer

@@ -61,7 +61,7 @@ module _ (station : Station) (octets memory assembly : List ℕ) (ok : Sound sta
         (eqb (station .gathering .blocks + 1) (frame .block)) refl refl refl next in
         subst (Parts (frame .source) (frame .block))
         (sym (taken-through assembly (reading.dataOf octets frame) (startOf (frame .block)) (1024 * frame .block) start end))
-        (more (found .1) octets frame header body refl (found .2))
+        (more (found .1) octets frame header body cyclic refl (found .2))
       where
         before : (a b c : ℕ) → a ≤ b → (a ≡ b → ⊥) → b ≡ c → a < c
         before a b c h n e = omega arith

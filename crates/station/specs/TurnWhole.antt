@@ -171,7 +171,7 @@ turn-whole station assembly lending octets memory token e w =
     let some = nonzero (frame .source) from in
     let parts = before-next (station .gathering) frame assembly (lending-gathers station assembly lending) some (eqb (frame .block) 1)
     (eqb (station .gathering .source) (frame .source)) (eqb (station .gathering .blocks + 1) (frame .block)) refl refl refl (whole .next) in
-    (frame, whole, subst (Parts (frame .source) (frame .block)) (sym (found .3)) (more (parts .1) octets frame (whole .header) (whole .body) refl (parts .2)))
+    (frame, whole, subst (Parts (frame .source) (frame .block)) (sym (found .3)) (more (parts .1) octets frame (whole .header) (whole .body) (whole .cyclic) refl (parts .2)))
   where
     nonzero : (n : ℕ) → 1 ≤ n → eqb n 0 ≡ false
     nonzero n h = ne-eqb n 0 (λ q. omega arith)
