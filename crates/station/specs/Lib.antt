@@ -38,3 +38,12 @@ pub mod RingKept
 pub mod Reached
 pub mod ViewKept
 pub mod Seen
+-- What hearing a frame does to the common memory.
+pub mod Memory
+pub mod Places
+pub mod OursKept
+pub mod TurnWritten
+pub mod TurnJoined
+pub mod Gathers
+pub mod GathersHeard
+pub mod TurnWhole

@@ -1,0 +1,88 @@
+-- What the assembly buffer holds while a turn is gathered: the data of blocks 1, 2, .. of one source, in order. Assumes nothing.
+use mathlib.Core.Path.{_≡_, sym, ap, subst, _∙_}
+use mathlib.Core.List.{List, [], _++_}
+use mathlib.Core.Bool.{Bool, true, false, cond, _&&_, _||_, false≢true}
+use Prim.Native.Nat.{ℕ, _+_, _*_}
+use native.Mathlib.Omega.{arith}
+use lib.Dec.{eqb}
+use lib.ListN.{length, take}
+use borrow.Author.Tests.{eqb-true}
+use Rattle.block.specs.Blocks.{startOf}
+use Rattle.frame.specs.Codes.{isCyclic}
+use Rattle.frame.specs.declared.Code.{Code}
+use Rattle.frame.specs.declared.Code.the-variants.{Token, Cyclic, Request, Trigger}
+use Rattle.frame.specs.declared.Fields.{Fields}
+use Rattle.reading.specs.Reading as reading
+use Rattle.reading.specs.Reading.{readHeaderOf, readBodyOf}
+use Rattle.reading.specs.declared.Read.the-variants.{Frame}
+use Rattle.station.specs.Data.{without}
+use Rattle.station.specs.Hearing.{enters}
+use Rattle.station.specs.State.{nothing}
+use Rattle.station.specs.declared.Gathering.{Gathering}
+use Rattle.station.specs.declared.Phase.{Phase}
+use Rattle.station.specs.declared.Phase.the-variants.{Off, Listening, Startup, Joining, Participating}
+use Rattle.station.specs.declared.Station.{Station}
+
+-- blocks 1 to n of a source, each read as a cyclic frame from some octets, and their data one behind the other
+pub data Parts (source : ℕ) : ℕ → List ℕ → Type 0 where
+  none : Parts source 0 []
+  more : {n : ℕ} {part : List ℕ} → Parts source n part → (octets : List ℕ) (frame : Fields)
+      → readHeaderOf octets ≡ Frame frame → readBodyOf (length octets) frame ≡ Frame frame → isCyclic (frame .code) ≡ true → frame .source ≡ source → frame .block ≡ n + 1
+      → Parts source (frame .block) (part ++ reading.dataOf octets frame)
+
+-- what is gathered stands at the front of the assembly buffer
+abbrev pub Gathers : Gathering → List ℕ → Type 0
+Gathers gathering assembly =
+    eqb (gathering .source) 0 ≡ false → Parts (gathering .source) (gathering .blocks) (take (1024 * gathering .blocks) assembly)
+
+pub gathers-nothing : (assembly : List ℕ) → Gathers nothing assembly
+gathers-nothing assembly e = absurd (false≢true (sym e))
+
+pub gathers-without : (source : ℕ) (gathering : Gathering) (assembly : List ℕ) → Gathers gathering assembly → Gathers (without source gathering) assembly
+gathers-without source gathering assembly g = by (eqb source (gathering .source))
+  where
+    by : (same : Bool) → Gathers (cond same nothing gathering) assembly
+    by true = gathers-nothing assembly
+    by false = g
+
+pub enters-gathers : (phase : Phase) (code : Code) (station : Station) (frame : Fields) (assembly : List ℕ) → Gathers (station .gathering) assembly
+    → Gathers (enters phase code station frame .gathering) assembly
+enters-gathers Off code station frame assembly g = g
+enters-gathers Listening Token station frame assembly g = gathers-nothing assembly
+enters-gathers Listening Cyclic station frame assembly g = g
+enters-gathers Listening Request station frame assembly g = g
+enters-gathers Listening Trigger station frame assembly g = gathers-nothing assembly
+enters-gathers Startup Token station frame assembly g = gathers-nothing assembly
+enters-gathers Startup Cyclic station frame assembly g = g
+enters-gathers Startup Request station frame assembly g = gathers-without (frame .source) (station .gathering) assembly g
+enters-gathers Startup Trigger station frame assembly g = g
+enters-gathers Joining Token station frame assembly g = g
+enters-gathers Joining Cyclic station frame assembly g = g
+enters-gathers Joining Request station frame assembly g = g
+enters-gathers Joining Trigger station frame assembly g = g
+enters-gathers Participating Token station frame assembly g = g
+enters-gathers Participating Cyclic station frame assembly g = g
+enters-gathers Participating Request station frame assembly g = gathers-without (frame .source) (station .gathering) assembly g
+enters-gathers Participating Trigger station frame assembly g = g
+
+-- the blocks before one that is next
+pub before-next : (gathering : Gathering) (frame : Fields) (assembly : List ℕ) → Gathers gathering assembly → eqb (frame .source) 0 ≡ false
+    → (one source block : Bool) → eqb (frame .block) 1 ≡ one → eqb (gathering .source) (frame .source) ≡ source
+    → eqb (gathering .blocks + 1) (frame .block) ≡ block → (one || (source && block)) ≡ true
+    → (n : ℕ) × Parts (frame .source) n (take (startOf (frame .block)) assembly) × (frame .block ≡ n + 1)
+before-next gathering frame assembly g some true source block o s b e =
+    let first : frame .block ≡ 1 = eqb-true (frame .block) 1 o in
+    let start : startOf (frame .block) ≡ 0 = omega arith in
+    (0, subst (λ (k : ℕ). Parts (frame .source) 0 (take k assembly)) (sym start) none, omega arith)
+before-next gathering frame assembly g some false true true o s b e =
+    let alike : gathering .source ≡ frame .source = eqb-true (gathering .source) (frame .source) s in
+    let count : gathering .blocks + 1 ≡ frame .block = eqb-true (gathering .blocks + 1) (frame .block) b in
+    let start : 1024 * gathering .blocks ≡ startOf (frame .block) = omega arith in
+    let parts : Parts (gathering .source) (gathering .blocks) (take (1024 * gathering .blocks) assembly) = g (ap (λ (k : ℕ). eqb k 0) alike ∙ some) in (
+      gathering .blocks,
+      subst (λ (k : ℕ). Parts (frame .source) (gathering .blocks) (take k assembly)) start
+          (subst (λ (k : ℕ). Parts k (gathering .blocks) (take (1024 * gathering .blocks) assembly)) alike parts),
+      omega arith,
+    )
+before-next gathering frame assembly g some false true false o s b e = absurd (false≢true e)
+before-next gathering frame assembly g some false false block o s b e = absurd (false≢true e)

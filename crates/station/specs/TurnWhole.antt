@@ -1,0 +1,177 @@
+-- "Half a turn is never seen": where every frame is heard with the assembly buffer that the one before left, each turn that is written is the
+-- data of blocks 1 to the last of its source, in order. Assumes nothing.
+use mathlib.Core.Path.{_≡_, refl, sym, subst}
+use mathlib.Core.List.{List, [], _∷_}
+use mathlib.Core.Bool.{Bool, true, false, cond, not, _&&_, false≢true}
+use Prim.Native.Nat.{ℕ, _+_, _≤_, _<_}
+use native.Mathlib.Omega.{arith}
+use lib.Dec.{eqb, leb, ltb}
+use lib.ListN.{getD, take}
+use borrow.Author.Tests.{ne-eqb}
+use Rattle.area.specs.Areas.{inRange}
+use Rattle.block.specs.Blocks.{octetsOf}
+use Rattle.frame.specs.declared.Fields.{Fields}
+use Rattle.frame.specs.declared.Refusal.{Refusal}
+use Rattle.frame.specs.declared.Refusal.the-variants as refusals
+use Rattle.members.specs.Members.{entryOf, isListed, strikes, numbersOf}
+use Rattle.members.specs.declared.Members.{Members}
+use Rattle.reading.specs.Reading.{isStation}
+use Rattle.station.specs.Answers.{dataOf}
+use Rattle.station.specs.ApartTicking.{station-from}
+use Rattle.station.specs.Asking as asking
+use Rattle.station.specs.Calls.{Call, start, stop, tick, hear, ask, after}
+use Rattle.station.specs.Data.{without}
+use Rattle.station.specs.Gathers.{Parts, more, Gathers, gathers-nothing, gathers-without, before-next}
+use Rattle.station.specs.GathersHeard.{hear-gathers}
+use Rattle.station.specs.Hearing.{hearOf}
+use Rattle.station.specs.KeepsAsking.{sound}
+use Rattle.station.specs.Memory.{Whole}
+use Rattle.station.specs.Reachable.{Typed, Reachable, unstarted, called}
+use Rattle.station.specs.Starting.{Switching, need, startedUp}
+use Rattle.station.specs.State.{isOff, never, fresh}
+use Rattle.station.specs.Ticking.{later, tickedBy, counted, fallsDue, startupTick, joiningWait, joiningTick, watchEnds, watchEnded, participantTick}
+use Rattle.station.specs.TurnJoined.{turn-joined}
+use Rattle.units.specs.declared.Ticks.{Ticks}
+use Rattle.panel.specs.Panel.{ticked}
+use Rattle.station.specs.Waits.{detectionWait, acceptanceTime, numberWait}
+use Rattle.station.specs.declared.Data.the-variants.{Written}
+use Rattle.station.specs.declared.Heard.the-variants as heard
+use Rattle.station.specs.declared.Phase.{Phase}
+use Rattle.station.specs.declared.Phase.the-variants.{Off, Listening, Startup, Joining, Participating}
+use Rattle.station.specs.declared.Settings.{Settings}
+use Rattle.station.specs.declared.Station.{Station}
+use Rattle.station.specs.declared.Token.{Token}
+
+-- one of two states
+either : (test : Bool) (assembly : List ℕ) (a b : Station) → Gathers (a .gathering) assembly → Gathers (b .gathering) assembly
+    → Gathers (cond test a b .gathering) assembly
+either true assembly a b p q = p
+either false assembly a b p q = q
+
+need-gathers : (test : Bool) (refusal : Refusal) (station : Station) (rest : Switching) (assembly : List ℕ) → Gathers (station .gathering) assembly
+    → Gathers (rest .station .gathering) assembly → Gathers (need test refusal station rest .station .gathering) assembly
+need-gathers true refusal station rest assembly p q = q
+need-gathers false refusal station rest assembly p q = p
+
+module _ (station : Station) (assembly : List ℕ) (g : Gathers (station .gathering) assembly) where
+  ended-gathers : (struck : Bool) → Gathers (cond struck (without (station .view) (station .gathering)) (station .gathering)) assembly
+  ended-gathers true = gathers-without (station .view) (station .gathering) assembly g
+  ended-gathers false = g
+
+  started-gathers : (own : Settings) (members : Members) (numbers : List ℕ) → Gathers (startedUp own members numbers .gathering) assembly
+  started-gathers own members [] = gathers-nothing assembly
+  started-gathers own members (number ∷ rest) = gathers-nothing assembly
+
+  startup-gathers : (elapsed : Ticks) → Gathers (startupTick station elapsed .gathering) assembly
+  startup-gathers elapsed =
+      either (leb acceptanceTime (elapsed .0)) assembly
+      (startedUp (station .own) (station .members) (numbersOf (station .members)))
+      (counted station (fallsDue station (station .elapsed) elapsed) elapsed (station .waited) (station .panel))
+      (started-gathers (station .own) (station .members) (numbersOf (station .members))) g
+
+  joining-gathers : (elapsed : Ticks) → Gathers (joiningTick station elapsed .gathering) assembly
+  joining-gathers elapsed =
+      either (leb detectionWait (elapsed .0)) assembly
+      (fresh Listening (station .own))
+      (joiningWait station elapsed (cond (eqb (station .rounds) 3) (later (numberWait (station .own .number)) (station .waited)) (station .waited)))
+      (gathers-nothing assembly) g
+
+  participant-gathers : (elapsed : Ticks) → Gathers (participantTick station elapsed .gathering) assembly
+  participant-gathers elapsed =
+      either (watchEnds station) assembly
+      (watchEnded station)
+      (counted station (station .own) elapsed (station .waited) (ticked (station .panel)))
+      (ended-gathers (isListed (station .members) (station .view) && strikes (station .members) (station .view))) g
+
+  tick-gathers : (phase : Phase) → Gathers (tickedBy phase station .gathering) assembly
+  tick-gathers Off = g
+  tick-gathers Listening = g
+  tick-gathers Startup = startup-gathers (later acceptanceTime (station .elapsed))
+  tick-gathers Joining = joining-gathers (later detectionWait (station .elapsed))
+  tick-gathers Participating = participant-gathers (later 2550 (station .elapsed))
+
+  sent-gathers : (phase : Phase) → Gathers (asking.sentIn phase station .gathering) assembly
+  sent-gathers Off = g
+  sent-gathers Listening = gathers-nothing assembly
+  sent-gathers Startup = g
+  sent-gathers Joining = gathers-nothing assembly
+  sent-gathers Participating = g
+
+  ask-gathers : (memory turn output : List ℕ) → Gathers (asking.askOf station memory turn output .station .gathering) assembly
+  ask-gathers memory turn output = by (asking.lentRight memory turn output) (asking.dueIn (station .phase) station)
+    where
+      by : (right due : Bool) → Gathers
+          (cond right
+          (cond due
+          (asking.written station (asking.turnAfter (station .phase) station memory turn) output)
+          (asking.refused station turn output refusals.NotDue))
+          (asking.refused station turn output refusals.Buffer) .station .gathering) assembly
+      by true true = sent-gathers (station .phase)
+      by true false = g
+      by false due = g
+
+  start-gathers : (own : Settings) → Gathers (after station (start own) .gathering) assembly
+  start-gathers own =
+      need-gathers (isOff (station .phase)) refusals.NotDue station _ assembly g
+      (need-gathers (isStation (own .number) && ltb 0 (own .watch .0)) refusals.Address station _ assembly g
+      (need-gathers (inRange (own .areas)) refusals.Area station _ assembly g (gathers-nothing assembly)))
+
+  stop-gathers : Gathers (after station stop .gathering) assembly
+  stop-gathers = need-gathers (not (isOff (station .phase))) refusals.NotDue station _ assembly g (gathers-nothing assembly)
+
+-- a call that borrows no assembly buffer
+abbrev pub hearsNothing : Call → Bool
+hearsNothing (start settings) = true
+hearsNothing stop = true
+hearsNothing tick = true
+hearsNothing (hear octets memory assembly) = false
+hearsNothing (ask memory turn output) = true
+
+-- a state that calls leave since off, each frame heard with the assembly buffer as it was left, and that buffer
+pub data Lending : Station → List ℕ → Type 0 where
+  begins : (assembly : List ℕ) → Lending never assembly
+  hears : {station : Station} {assembly : List ℕ} → Lending station assembly → (octets memory : List ℕ) → ((at : ℕ) → getD octets at 0 < 256)
+      → Lending (hearOf station octets memory assembly .station) (hearOf station octets memory assembly .assembly)
+  calls : {station : Station} {assembly : List ℕ} → Lending station assembly → (call : Call) → Typed call → hearsNothing call ≡ true
+      → Lending (after station call) assembly
+
+pub lending-reached : {station : Station} {assembly : List ℕ} → Lending station assembly → Reachable station
+lending-reached (begins assembly) = unstarted
+lending-reached (hears {assembly = assembly} before octets memory typed) = called (hear octets memory assembly) (lending-reached before) typed
+lending-reached (calls before call typed other) = called call (lending-reached before) typed
+
+call-gathers : (station : Station) (assembly : List ℕ) (call : Call) → hearsNothing call ≡ true → Gathers (station .gathering) assembly
+    → Gathers (after station call .gathering) assembly
+call-gathers station assembly (start settings) e g = start-gathers station assembly g settings
+call-gathers station assembly stop e g = stop-gathers station assembly g
+call-gathers station assembly tick e g = tick-gathers station assembly g (station .phase)
+call-gathers station assembly (hear octets memory lent) e g = absurd (false≢true e)
+call-gathers station assembly (ask memory turn output) e g = ask-gathers station assembly g memory turn output
+
+-- what is gathered stands at the front of that buffer
+pub lending-gathers : (station : Station) (assembly : List ℕ) → Lending station assembly → Gathers (station .gathering) assembly
+lending-gathers _ _ (begins assembly) = gathers-nothing assembly
+lending-gathers _ _ (hears {station = station} {assembly = assembly} before octets memory typed) =
+    hear-gathers station octets memory assembly (sound station (lending-reached before)) (lending-gathers station assembly before)
+lending-gathers _ _ (calls {station = station} {assembly = assembly} before call typed other) =
+    call-gathers station assembly call other (lending-gathers station assembly before)
+
+-- Each turn that is written is blocks 1 to the last of its source.
+pub turn-whole : (station : Station) (assembly : List ℕ) → Lending station assembly → (octets memory : List ℕ) (token : Token)
+    → hearOf station octets memory assembly .answer ≡ heard.Cyclic token → dataOf token ≡ Written
+    → (frame : Fields) × Whole station octets memory assembly frame
+    × Parts (frame .source) (frame .block)
+    (take (octetsOf (entryOf (station .members) (frame .source) .areas)) (hearOf station octets memory assembly .assembly))
+turn-whole station assembly lending octets memory token e w =
+    let reached = lending-reached lending in
+    let found = turn-joined station reached octets memory assembly token e w in
+    let frame : Fields = found .0 in
+    let whole : Whole station octets memory assembly frame = found .1 in
+    let from = station-from (frame .source) (sound station reached .list .each (frame .source) (whole .listed) .station) in
+    let some = nonzero (frame .source) from in
+    let parts = before-next (station .gathering) frame assembly (lending-gathers station assembly lending) some (eqb (frame .block) 1)
+    (eqb (station .gathering .source) (frame .source)) (eqb (station .gathering .blocks + 1) (frame .block)) refl refl refl (whole .next) in
+    (frame, whole, subst (Parts (frame .source) (frame .block)) (sym (found .3)) (more (parts .1) octets frame (whole .header) (whole .body) (whole .cyclic) refl (parts .2)))
+  where
+    nonzero : (n : ℕ) → 1 ≤ n → eqb n 0 ≡ false
+    nonzero n h = ne-eqb n 0 (λ q. omega arith)
