@@ -24,7 +24,7 @@ use Rattle.ring.specs.Events.{Stations, Lent, Event, asked, handed, afte
 use Rattle.ring.specs.Hears.{accepts}
 use Rattle.ring.specs.Member.{InRing, restarted-in, cleared-kept, sent-in}
 use Rattle.frame.specs.declared.Refusal.the-variants as refusals
-use Rattle.station.specs.Laws.{same-move}
+use Rattle.station.specs.Acts.{same-move}
 use Rattle.ring.specs.Steps.{Ok, next-is, heard-in, sends, source-is, destination-is, cyclic-is, last-is, idle-station, idle-answer, asked-station, asked-answer, asked-read}
 
 module _ (numbers : List ℕ) (laws-next : (x : ℕ) → x ∈ numbers → next numbers x ∈ numbers)

@@ -13,19 +13,13 @@ use Rattle.reading.specs.Reading.{readOf, readHeaderOf, readBodyOf, dataOf}
 use Rattle.reading.specs.declared.Read.the-variants.{Frame}
 use Rattle.round_trip.specs.Accepted.{Accepted, accepted}
 use Rattle.settling.specs.Ring.{_∈_}
+use Rattle.station.specs.AskedHeard as heard
 use Rattle.station.specs.Data.{gathered}
 use Rattle.station.specs.Hearing.{isTaken, isStranger, knows, lentRight, participantHeard, hearOf}
 use Rattle.station.specs.State.{isOff}
 use Rattle.station.specs.declared.Phase.the-variants.{Participating}
 use Rattle.station.specs.declared.Station.{Station}
 use Rattle.ring.specs.Member.{InRing, listed}
-
--- octets that are read as fields pass both parts of the reading
-pub header-read : {s : List ℕ} {fields : Fields} → Accepted s fields → readHeaderOf s ≡ Frame fields
-header-read a = simp (a .is-whole, a .is-marked, a .is-long, a .is-coded, a .holds, a .is-addressed)
-
-pub body-read : {s : List ℕ} {fields : Fields} → Accepted s fields → readBodyOf (length s) fields ≡ Frame fields
-body-read a = simp (a .is-ranged, a .is-blocked)
 
 module _ {numbers : List ℕ} {number : ℕ} {station : Station} (in-ring : InRing numbers number station) where
   -- it knows every station of the ring
@@ -41,16 +35,15 @@ module _ {numbers : List ℕ} {number : ℕ} {station : Station} (in-ring : InRi
 
   module _ (octets memory assembly : List ℕ) (frame : Fields) (read : readOf octets ≡ Frame frame) (lent : lentRight memory assembly ≡ true)
       (source : frame .source ∈ numbers) (other : ¬ (frame .source ≡ number)) where
-    not-taken : isTaken station frame ≡ false
-    not-taken =
-        let different : eqb (frame .source) (station .own .number) ≡ false = ne-eqb _ _ (λ e. other (e ∙ in-ring .own)) in
-        rw (different, and-false (not (isOff (station .phase))))
-
     -- a cyclic frame from a station of the ring, with a token for a station of the ring, is accepted
     pub accepts : isCyclic (frame .code) ≡ true → frame .destination ∈ numbers →
         hearOf station octets memory assembly ≡ participantHeard station frame (gathered station frame (dataOf octets frame) assembly memory)
     accepts cyclic destination =
-        let a = accepted octets frame read in
-        let stranger : isStranger station frame ≡ false =
-        simp (known-ring (frame .source) source, known-ring (frame .destination) destination, or-true, and-false) in
-        rw (lent, header-read a, not-taken, body-read a, stranger, in-ring .participates, cyclic)
+        heard.accepts station octets memory assembly frame read lent
+        (record {
+          participates = in-ring .participates;
+          other = λ e. other (e ∙ in-ring .own);
+          source = known-ring (frame .source) source;
+          destination = known-ring (frame .destination) destination;
+        })
+        cyclic

@@ -22,7 +22,7 @@ use Rattle.station.specs.declared.Phase.{Phase}
 use Rattle.station.specs.declared.Phase.the-variants.{Off, Listening, Startup, Joining, Participating}
 use Rattle.station.specs.declared.Station.{Station}
 use Rattle.ring.specs.Demand.{LastCall, sent, heard}
-use Rattle.ring.specs.Hears.{header-read, body-read}
+use Rattle.station.specs.AskedHeard.{header-read, body-read}
 
 -- two phases are not one
 two-phases : {a b : Phase} → a ≡ b → isParticipating a ≡ true → isParticipating b ≡ false → ⊥

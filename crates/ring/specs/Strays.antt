@@ -23,7 +23,7 @@ use Rattle.station.specs.declared.Phase.{Phase}
 use Rattle.station.specs.declared.Phase.the-variants.{Participating}
 use Rattle.station.specs.declared.Station.{Station}
 use Rattle.ring.specs.Events.{Stations, stray, afterEvent, effectOf, viewsOf, Stray, refused, starts, harmless, CanCome}
-use Rattle.ring.specs.Hears.{header-read, body-read}
+use Rattle.station.specs.AskedHeard.{header-read, body-read}
 use Rattle.ring.specs.Lists.{ring-kept}
 use Rattle.ring.specs.Member.{InRing, listed}
 use Rattle.ring.specs.Steps.{Ok}

@@ -10,9 +10,9 @@ pub mod Hearing
 pub mod Asking
 pub mod Calls
 -- Theorems.
+pub mod Acts
 pub mod Refusing
 pub mod Asked
-pub mod Laws
 -- Demand 2, the panel: what the history of the calls says, and that the panel shows it.
 pub mod History
 pub mod Showing
@@ -47,3 +47,5 @@ pub mod TurnJoined
 pub mod Gathers
 pub mod GathersHeard
 pub mod TurnWhole
+-- What is asked for is heard.
+pub mod AskedHeard

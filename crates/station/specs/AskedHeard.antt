@@ -1,0 +1,126 @@
+-- Every frame asked for is accepted by whoever knows its sender and its destination. Assumes nothing.
+use mathlib.Core.Path.{_≡_, refl, ap, _∙_}
+use mathlib.Core.Bool.{Bool, true, false, cond, not, _&&_, _||_, or-true, and-false}
+use mathlib.Core.List.{List}
+use Prim.Native.Nat.{ℕ}
+use native.Mathlib.Omega.{arith}
+use lib.Dec.{eqb}
+use lib.ListN.{length, take}
+use borrow.Author.Tests.{ne-eqb}
+use Rattle.frame.specs.Codes.{isToken, isCyclic}
+use Rattle.frame.specs.declared.Fields.{Fields}
+use Rattle.frame.specs.declared.Refusal.the-variants as refusals
+use Rattle.reading.specs.Reading.{readOf, readHeaderOf, readBodyOf, dataOf}
+use Rattle.reading.specs.declared.Read.the-variants.{Frame}
+use Rattle.round_trip.specs.Accepted.{Accepted, accepted as passed}
+use Rattle.station.specs.Asked.{CanSend, asked-back}
+use Rattle.station.specs.Asking.{lentRight as lentRightToAsk, askOf, dueFields}
+use Rattle.station.specs.Calls.{hear, taken, verdict, heardVerdict}
+use Rattle.station.specs.Data.{gathered}
+use Rattle.station.specs.Hearing.{Hearing, isTaken, isStranger, knows, lentRight, participantHeard, accepted, hearOf}
+use Rattle.station.specs.KeepsAsking.{sound}
+use Rattle.station.specs.ListKept.{next-station}
+use Rattle.station.specs.Reachable.{Reachable}
+use Rattle.station.specs.State.{isParticipating, isOff}
+use Rattle.station.specs.declared.Asked.the-variants.{Octets, Refused}
+use Rattle.station.specs.declared.Data.the-variants.{Dropped}
+use Rattle.station.specs.declared.Heard.the-variants as answers
+use Rattle.station.specs.declared.Phase.{Phase}
+use Rattle.station.specs.declared.Phase.the-variants.{Off, Listening, Startup, Joining, Participating}
+use Rattle.station.specs.declared.Station.{Station}
+use Rattle.station.specs.declared.Token.the-variants as tokens
+
+-- octets that are read as fields pass both parts of the reading
+pub header-read : {s : List ℕ} {fields : Fields} → Accepted s fields → readHeaderOf s ≡ Frame fields
+header-read a = simp (a .is-whole, a .is-marked, a .is-long, a .is-coded, a .holds, a .is-addressed)
+
+pub body-read : {s : List ℕ} {fields : Fields} → Accepted s fields → readBodyOf (length s) fields ≡ Frame fields
+body-read a = simp (a .is-ranged, a .is-blocked)
+
+-- a participant that lists the sender, and lists the destination or is it, and is not the sender
+pub record Listens (listener : Station) (frame : Fields) : Type 0 where
+  pub participates : listener .phase ≡ Participating
+  pub other : ¬ (frame .source ≡ listener .own .number)
+  pub source : knows listener (frame .source) ≡ true
+  pub destination : knows listener (frame .destination) ≡ true
+
+module _ (listener : Station) (octets memory assembly : List ℕ) (frame : Fields) (read : readOf octets ≡ Frame frame)
+    (lent : lentRight memory assembly ≡ true) (listens : Listens listener frame) where
+  -- neither 6 nor 9
+  not-taken : isTaken listener frame ≡ false
+  not-taken =
+      let different : eqb (frame .source) (listener .own .number) ≡ false = ne-eqb _ _ (listens .other) in
+      rw (different, and-false (not (isOff (listener .phase))))
+
+  no-stranger : isStranger listener frame ≡ false
+  no-stranger = simp (listens .source, listens .destination, or-true, and-false)
+
+  pub heard-accepted : hearOf listener octets memory assembly ≡ accepted listener frame octets memory assembly
+  heard-accepted =
+      let a = passed octets frame read in
+      rw (lent, header-read a, not-taken, body-read a, no-stranger)
+
+  -- a cyclic frame restarts the watch, moves the view and is gathered
+  pub accepts : isCyclic (frame .code) ≡ true →
+      hearOf listener octets memory assembly ≡ participantHeard listener frame (gathered listener frame (dataOf octets frame) assembly memory)
+  accepts cyclic = heard-accepted ∙ rw (listens .participates, cyclic)
+
+  pub not-refused : verdict listener (hear octets memory assembly) ≡ taken
+  not-refused =
+      ap (λ (result : Hearing). heardVerdict (result .answer)) heard-accepted
+      ∙ either (isParticipating (listener .phase) && isCyclic (frame .code)) _ _ refl (entered (isOff (listener .phase)) (isCyclic (frame .code)))
+    where
+      either : (test : Bool) (one other : Hearing) → heardVerdict (one .answer) ≡ taken → heardVerdict (other .answer) ≡ taken →
+          heardVerdict (cond test one other .answer) ≡ taken
+      either true one other p q = p
+      either false one other p q = q
+
+      entered : (off cyclic : Bool) → heardVerdict (cond off answers.Off (cond cyclic (answers.Cyclic (tokens.None Dropped)) answers.Done)) ≡ taken
+      entered true cyclic = refl
+      entered false true = refl
+      entered false false = refl
+
+-- a station that calls can leave, and that is not off, can send
+pub can-send : (station : Station) → Reachable station → isOff (station .phase) ≡ false → CanSend station
+can-send station reached on =
+    let s = sound station reached in
+    record {
+      number = s .ours on .number;
+      areas = s .ours on .areas;
+      next = next-station (s .list) (station .own .number) (s .ours on .number) (s .ours on .number);
+      place = s .place;
+    }
+
+-- an off station has no frame due
+asked-on : (station : Station) (memory turn output : List ℕ) (count : ℕ) → askOf station memory turn output .answer ≡ Octets count →
+    isOff (station .phase) ≡ false
+asked-on station memory turn output count = by (station .phase) refl (lentRightToAsk memory turn output) refl
+  where
+    by : (phase : Phase) → station .phase ≡ phase → (lent : Bool) → lentRightToAsk memory turn output ≡ lent →
+        askOf station memory turn output .answer ≡ Octets count → isOff phase ≡ false
+    by Off p true q e =
+        let none : askOf station memory turn output .answer ≡ Refused refusals.NotDue = rw (q, p) in
+        let z : _≡_ {A = ℕ} 0 1 = cc in absurd (omega arith)
+    by Off p false q e =
+        let none : askOf station memory turn output .answer ≡ Refused refusals.Buffer = rw (q) in
+        let z : _≡_ {A = ℕ} 0 1 = cc in absurd (omega arith)
+    by Listening p lent q e = refl
+    by Startup p lent q e = refl
+    by Joining p lent q e = refl
+    by Participating p lent q e = refl
+
+-- Of every state that calls can leave: what an asking writes reads back to the fields of the frame that is due,
+pub frame-asked : (station : Station) → Reachable station → (memory turn output : List ℕ) (count : ℕ) →
+    askOf station memory turn output .answer ≡ Octets count →
+    readOf (take count (askOf station memory turn output .output)) ≡ Frame (dueFields (station .phase) station)
+frame-asked station reached memory turn output count e =
+    asked-back station memory turn output count (can-send station reached (asked-on station memory turn output count e)) e
+
+-- and every participant that lists the sender, and lists the destination or is it, and is not the sender, accepts it.
+pub frame-accepted : (station : Station) → Reachable station → (memory turn output : List ℕ) (count : ℕ) →
+    askOf station memory turn output .answer ≡ Octets count →
+    (listener : Station) → Listens listener (dueFields (station .phase) station) →
+    (common assembly : List ℕ) → lentRight common assembly ≡ true →
+    verdict listener (hear (take count (askOf station memory turn output .output)) common assembly) ≡ taken
+frame-accepted station reached memory turn output count e listener listens common assembly lent =
+    not-refused listener _ common assembly _ (frame-asked station reached memory turn output count e) lent listens
