@@ -1,12 +1,10 @@
 -- The station list (paper 01, "The token view and the watch"): who is in it, next, misses and striking.
 use Prim.Native.Nat.{ℕ, suc, _+_}
-use mathlib.Core.Bool.{Bool, true, false, cond}
+use mathlib.Core.Bool.{Bool, false, cond}
 use mathlib.Core.List.{List, [], _∷_}
 use lib.Dec.{ltb, leb}
 use lib.ListN.{getD, set, replicate}
-use Rattle.area.specs.declared.Areas.{Areas}
 use Rattle.settling.specs.Ring.{next}
-use Rattle.units.specs.declared.Milliseconds.{Milliseconds}
 use Rattle.members.specs.declared.Entry.{Entry}
 use Rattle.members.specs.declared.Members.{Members}
 

@@ -16,7 +16,6 @@ use Rattle.station.specs.Calls.{ask, hear}
 use Rattle.station.specs.KeepsAsking.{sound}
 use Rattle.station.specs.Reachable.{Reachable, called, Sound}
 use Rattle.station.specs.State.{isOff}
-use Rattle.station.specs.declared.Phase.the-variants.{Participating}
 use Rattle.station.specs.declared.Station.{Station}
 use Rattle.ring.specs.Asks.{asked-ok, asked-moved}
 use Rattle.ring.specs.Demand.{LastCall, sent, heard, Disturbed}

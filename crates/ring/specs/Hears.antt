@@ -1,23 +1,19 @@
 -- A station of the ring hears what another one sends. Assumes nothing.
 use mathlib.Core.Path.{_≡_, sym, _∙_}
-use mathlib.Core.Bool.{true, false, not, or-true, and-false}
+use mathlib.Core.Bool.{true, or-true}
 use mathlib.Core.List.{List}
 use Prim.Native.Nat.{ℕ}
 use native.Mathlib.Decide.{ℕ-discrete}
 use lib.Dec.{eqb}
-use lib.ListN.{length}
-use borrow.Author.Tests.{eq-eqb, ne-eqb}
+use borrow.Author.Tests.{eq-eqb}
 use Rattle.frame.specs.Codes.{isCyclic}
 use Rattle.frame.specs.declared.Fields.{Fields}
-use Rattle.reading.specs.Reading.{readOf, readHeaderOf, readBodyOf, dataOf}
+use Rattle.reading.specs.Reading.{readOf, dataOf}
 use Rattle.reading.specs.declared.Read.the-variants.{Frame}
-use Rattle.round_trip.specs.Accepted.{Accepted, accepted}
 use Rattle.settling.specs.Ring.{_∈_}
 use Rattle.station.specs.AskedHeard as heard
 use Rattle.station.specs.Data.{gathered}
-use Rattle.station.specs.Hearing.{isTaken, isStranger, knows, lentRight, participantHeard, hearOf}
-use Rattle.station.specs.State.{isOff}
-use Rattle.station.specs.declared.Phase.the-variants.{Participating}
+use Rattle.station.specs.Hearing.{knows, lentRight, participantHeard, hearOf}
 use Rattle.station.specs.declared.Station.{Station}
 use Rattle.ring.specs.Member.{InRing, listed}
 

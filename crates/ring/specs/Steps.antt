@@ -22,7 +22,6 @@ use Rattle.station.specs.Asking as asking
 use Rattle.station.specs.State.{holds}
 use Rattle.station.specs.Token.{viewHeard, viewAfter}
 use Rattle.station.specs.declared.Asked.the-variants as answers
-use Rattle.station.specs.declared.Phase.the-variants.{Participating}
 use Rattle.station.specs.declared.Station.{Station}
 use Rattle.ring.specs.Events.{Stations}
 use Rattle.ring.specs.Member.{InRing, next-same}

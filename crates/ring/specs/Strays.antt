@@ -19,7 +19,6 @@ use Rattle.station.specs.Calls.{Call, start, after, refusedBy, verdict}
 use Rattle.station.specs.Hearing as hearing
 use Rattle.station.specs.Refusing.{Spared, same, turnedOff, refused-left}
 use Rattle.station.specs.State.{isParticipating}
-use Rattle.station.specs.declared.Phase.{Phase}
 use Rattle.station.specs.declared.Phase.the-variants.{Participating}
 use Rattle.station.specs.declared.Station.{Station}
 use Rattle.ring.specs.Events.{Stations, stray, afterEvent, effectOf, viewsOf, Stray, refused, starts, harmless, CanCome}

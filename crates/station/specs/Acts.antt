@@ -1,7 +1,7 @@
 -- What a station does, in laws that follow from the rules at once. By the first of them the ring of demand 3 sees a station: how a token frame,
 -- a silence and a pass move a view, restart the watch and keep the list. Assumes nothing.
 use mathlib.Core.Path.{_≡_, refl, sym}
-use mathlib.Core.Bool.{Bool, true, false}
+use mathlib.Core.Bool.{true, false}
 use mathlib.Core.List.{List, []}
 use Prim.Native.Nat.{ℕ}
 use native.Mathlib.Decide.{ℕ-discrete}

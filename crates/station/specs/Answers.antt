@@ -1,7 +1,6 @@
 -- Paper 01, "Numbers the station answers with" and "The token view and the watch": the words of each answer that is an enum, as numbers in
 -- the paper's order.
 use Prim.Native.Nat.{ℕ}
-use Rattle.frame.specs.Refusals.{numberOf}
 use Rattle.station.specs.declared.Data.{Data}
 use Rattle.station.specs.declared.Data.the-variants.{Kept, Written, Dropped}
 use Rattle.station.specs.declared.Phase.{Phase}

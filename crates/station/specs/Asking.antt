@@ -1,7 +1,7 @@
 -- Asking for a frame (paper 01, "Starting and joining", "The token view and the watch").
 use Prim.Native.Nat.{ℕ, _+_}
 use mathlib.Core.Bool.{Bool, true, false, cond, not, _&&_}
-use mathlib.Core.List.{List, []}
+use mathlib.Core.List.{List}
 use lib.Dec.{eqb, leb}
 use lib.ListN.{length, drop}
 use Rattle.area.specs.Areas.{memoryOctets}

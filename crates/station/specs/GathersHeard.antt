@@ -1,7 +1,7 @@
 -- Hearing keeps what the assembly buffer holds of a turn; so the turn that is written is blocks 1 to the last of one source. Assumes nothing.
 use mathlib.Core.Path.{_≡_, refl, sym, subst, _∙_}
-use mathlib.Core.List.{List}
-use mathlib.Core.Bool.{Bool, true, false, cond, not, _&&_, _||_}
+use mathlib.Core.List.{List, _∷_}
+use mathlib.Core.Bool.{Bool, true, false, cond, not, _&&_, _||_, false≢true}
 use Prim.Native.Nat.{ℕ, _+_, _*_, _≤_, _<_}
 use native.Mathlib.Omega.{arith}
 use lib.Dec.{eqb}
@@ -21,26 +21,40 @@ use Rattle.reading.specs.declared.Read.{Read}
 use Rattle.reading.specs.declared.Read.the-variants.{Frame, Refused}
 use Rattle.round_trip.specs.Shown.{is-blocked}
 use Rattle.station.specs.Data.{gathered, dropped, turnWritten, sameAreas, isNext}
-use Rattle.station.specs.Gathers.{Parts, more, Gathers, gathers-nothing, enters-gathers, before-next}
+use Rattle.station.specs.Gathers.{acceptedAfter, Parts, more, Gathers, gathers-nothing, enters-gathers, before-next}
 use Rattle.station.specs.Hearing.{Hearing, lentRight, refused, isTaken, afterTaken, knows, isStranger, entersAnswer, enters, accepted, participantHeard, bodyHeard, headerHeard, hearOf}
 use Rattle.station.specs.Memory.{known-listed, rest-fails, not-off, body-frame}
 use Rattle.station.specs.Reachable.{Sound}
 use Rattle.station.specs.State.{isOff, isParticipating, nothing, stopped}
 use Rattle.station.specs.TurnJoined.{body-blocked, data-long, taken-through, same-octets}
 use Rattle.station.specs.TurnWritten.{assembly-long}
-use Rattle.station.specs.declared.Data.the-variants.{Kept, Written}
+use Rattle.station.specs.declared.Data.the-variants.{Kept, Written, Dropped}
+use Rattle.station.specs.declared.Heard.the-variants as answers
 use Rattle.station.specs.declared.Station.{Station}
+use Rattle.station.specs.declared.Token.the-variants as tokens
 
-abbrev Keeps : Hearing → Type 0
-Keeps result = Gathers (result .station .gathering) (result .assembly)
+module _ {heard : List (List ℕ)} (station : Station) (octets memory assembly : List ℕ) (ok : Sound station)
+    (before : Gathers heard (station .gathering) assembly) where
+  abbrev Keeps : Hearing → Type 0
+  Keeps result = Gathers (acceptedAfter (result .answer) octets heard) (result .station .gathering) (result .assembly)
 
-module _ (station : Station) (octets memory assembly : List ℕ) (ok : Sound station) (g : Gathers (station .gathering) assembly) where
+  -- nobody gathers before it participates
+  unheld : isParticipating (station .phase) ≡ false → (frames : List (List ℕ)) → Gathers frames (station .gathering) assembly
+  unheld p frames some = absurd (eqb-false (station .gathering .source) 0 some (ok .ungathered p))
+
+  -- a frame that is no cyclic one leaves the list of those that are
+  plain : (off cyclic : Bool) → cyclic ≡ false →
+      acceptedAfter (cond off answers.Off (cond cyclic (answers.Cyclic (tokens.None Dropped)) answers.Done)) octets heard ≡ heard
+  plain true cyclic e = refl
+  plain false true e = absurd (false≢true (sym e))
+  plain false false e = refl
+
   -- a block that is kept
   module _ (frame : Fields) (header : readHeaderOf octets ≡ Frame frame) (body : readBodyOf (length octets) frame ≡ Frame frame)
       (lent : lentRight memory assembly ≡ true) (cyclic : isCyclic (frame .code) ≡ true) (listed : isListed (station .members) (frame .source) ≡ true)
       (alike : sameAreas (frame .areas) (entryOf (station .members) (frame .source) .areas) ≡ true) (next : isNext (station .gathering) frame ≡ true)
       (more-come : eqb (frame .block) (frame .blocks) ≡ false) where
-    kept-gathers : Gathers (record { source = frame .source; blocks = frame .block })
+    kept-gathers : Gathers (octets ∷ heard) (record { source = frame .source; blocks = frame .block })
         (pasted assembly (startOf (frame .block)) (reading.dataOf octets frame))
     kept-gathers some =
         let facts = is-blocked (length octets) frame (body-blocked (length octets) frame frame body cyclic) in
@@ -48,7 +62,7 @@ module _ (station : Station) (octets memory assembly : List ℕ) (ok : Sound sta
         let from = facts .from in
         let to = facts .to in
         let unlike = eqb-false (frame .block) (frame .blocks) more-come in
-        let few : frame .block < blocksOf (frame .areas) = before (frame .block) (frame .blocks) (blocksOf (frame .areas)) to unlike total in
+        let few : frame .block < blocksOf (frame .areas) = smaller (frame .block) (frame .blocks) (blocksOf (frame .areas)) to unlike total in
         let size : length (reading.dataOf octets frame) ≡ 1024 =
         data-long octets frame cyclic (facts .least) ∙ facts .size ∙ cut.whole (frame .areas) (frame .block) from few in
         let end = ending (frame .block) (length (reading.dataOf octets frame)) from size in
@@ -57,14 +71,14 @@ module _ (station : Station) (octets memory assembly : List ℕ) (ok : Sound sta
         let same = same-octets (frame .areas) (entryOf (station .members) (frame .source) .areas) alike in
         let start = fitting (startOf (frame .block)) (lengthOf (frame .areas) (frame .block)) (octetsOf (frame .areas))
         (octetsOf (entryOf (station .members) (frame .source) .areas)) (length assembly) within same room (assembly-long memory assembly lent) in
-        let found = before-next (station .gathering) frame assembly g some (eqb (frame .block) 1) (eqb (station .gathering .source) (frame .source))
+        let found = before-next (station .gathering) frame assembly before some (eqb (frame .block) 1) (eqb (station .gathering .source) (frame .source))
         (eqb (station .gathering .blocks + 1) (frame .block)) refl refl refl next in
-        subst (Parts (frame .source) (frame .block))
+        subst (Parts (frame .source) (octets ∷ heard) (frame .block))
         (sym (taken-through assembly (reading.dataOf octets frame) (startOf (frame .block)) (1024 * frame .block) start end))
         (more (found .1) octets frame header body cyclic refl (found .2))
       where
-        before : (a b c : ℕ) → a ≤ b → (a ≡ b → ⊥) → b ≡ c → a < c
-        before a b c h n e = omega arith
+        smaller : (a b c : ℕ) → a ≤ b → (a ≡ b → ⊥) → b ≡ c → a < c
+        smaller a b c h n e = omega arith
 
         weaker : (a b : ℕ) → a < b → a ≤ b
         weaker a b h = omega arith
@@ -126,12 +140,15 @@ module _ (station : Station) (octets memory assembly : List ℕ) (ok : Sound sta
       by true true p c =
           gather p c (sameAreas (frame .areas) (entryOf (station .members) (frame .source) .areas)) (isNext (station .gathering) frame)
           (eqb (frame .block) (frame .blocks)) refl refl refl
-      by true false p c = enters-gathers (station .phase) (frame .code) station frame assembly g
-      by false cyclic p c = enters-gathers (station .phase) (frame .code) station frame assembly g
+      by true false p c =
+          subst (λ (frames : List (List ℕ)). Gathers frames (enters (station .phase) (frame .code) station frame .gathering) assembly)
+          (sym (plain (isOff (station .phase)) (isCyclic (frame .code)) c))
+          (enters-gathers (station .phase) (frame .code) station frame assembly before)
+      by false cyclic p c = enters-gathers (station .phase) (frame .code) station frame assembly (unheld p _)
 
   body-gathers : (header : Fields) → readHeaderOf octets ≡ Frame header → lentRight memory assembly ≡ true → isTaken station header ≡ false
       → (read : Read) → readBodyOf (length octets) header ≡ read → Keeps (bodyHeard station octets memory assembly read)
-  body-gathers header h lent others (Refused refusal) b = g
+  body-gathers header h lent others (Refused refusal) b = before
   body-gathers header h lent others (Frame frame) b =
       by (isStranger station frame) refl (subst (λ (f : Fields). readHeaderOf octets ≡ Frame f) alike h)
       (subst (λ (f : Fields). readBodyOf (length octets) f ≡ Frame frame) alike b)
@@ -143,16 +160,16 @@ module _ (station : Station) (octets memory assembly : List ℕ) (ok : Sound sta
       by : (stranger : Bool) → isStranger station frame ≡ stranger → readHeaderOf octets ≡ Frame frame
           → readBodyOf (length octets) frame ≡ Frame frame → isTaken station frame ≡ false
           → Keeps (cond stranger (refused station memory assembly refusals.Stranger) (accepted station frame octets memory assembly))
-      by true s first second third = g
+      by true s first second third = before
       by false s first second third = accepted-gathers frame first second lent third s
 
   header-gathers : lentRight memory assembly ≡ true → (read : Read) → readHeaderOf octets ≡ read
       → Keeps (headerHeard station octets memory assembly read)
-  header-gathers lent (Refused refusal) h = g
+  header-gathers lent (Refused refusal) h = before
   header-gathers lent (Frame frame) h = by (isTaken station frame) refl
     where
-      off : (participating : Bool) → Gathers (cond participating station (stopped station) .gathering) assembly
-      off true = g
+      off : (participating : Bool) → Gathers heard (cond participating station (stopped station) .gathering) assembly
+      off true = before
       off false = gathers-nothing assembly
 
       by : (taken : Bool) → isTaken station frame ≡ taken
@@ -172,4 +189,4 @@ module _ (station : Station) (octets memory assembly : List ℕ) (ok : Sound sta
           (headerHeard station octets memory assembly (readHeaderOf octets))
           (refused station memory assembly refusals.Buffer))
       by true r = header-gathers r (readHeaderOf octets) refl
-      by false r = g
+      by false r = before

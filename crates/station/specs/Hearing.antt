@@ -1,6 +1,6 @@
 -- Hearing a frame (paper 01, "Numbers the station answers with", "Starting and joining", "The token view and the watch", "Data").
 use Prim.Native.Nat.{ℕ}
-use mathlib.Core.Bool.{Bool, true, false, cond, not, _&&_, _||_}
+use mathlib.Core.Bool.{Bool, cond, not, _&&_, _||_}
 use mathlib.Core.List.{List}
 use lib.Dec.{eqb}
 use lib.ListN.{length}

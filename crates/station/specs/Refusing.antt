@@ -15,7 +15,7 @@ use Rattle.reading.specs.Reading.{isStation, readHeaderOf, readBodyOf, dataOf}
 use Rattle.reading.specs.declared.Read.{Read}
 use Rattle.reading.specs.declared.Read.the-variants.{Frame, Refused}
 use Rattle.station.specs.Asking as asking
-use Rattle.station.specs.Calls.{Call, start, stop, tick, hear, ask, lent, lentAfter, after, Verdict, refusedBy, taken, verdict, switchedVerdict, heardVerdict, askedVerdict}
+use Rattle.station.specs.Calls.{Call, start, stop, tick, hear, ask, lent, lentAfter, after, refusedBy, taken, verdict, switchedVerdict, heardVerdict, askedVerdict}
 use Rattle.station.specs.Data.{gathered}
 use Rattle.station.specs.Hearing.{Hearing, lentRight, refused, isTaken, afterTaken, isStranger, entersAnswer, enters, accepted, participantHeard, bodyHeard, headerHeard, hearOf}
 use Rattle.station.specs.Starting.{Switching, need}

@@ -10,12 +10,12 @@ use Rattle.frame.specs.declared.Fields.{Fields}
 use Rattle.frame.specs.declared.Refusal.{Refusal}
 use Rattle.frame.specs.declared.Refusal.the-variants as refusals
 use Rattle.members.specs.Listing.{bare, overlapsListed, listing}
-use Rattle.members.specs.Members.{numbersOf, smallest}
+use Rattle.members.specs.Members.{smallest}
 use Rattle.members.specs.declared.Members.{Members}
 use Rattle.reading.specs.Reading.{isStation}
 use Rattle.writing.specs.Writing.{noAreas}
 use Rattle.station.specs.State.{isOff, noTicks, fresh, stopped, begun}
-use Rattle.station.specs.Waits.{acceptanceTime, numberWait, listeningTime}
+use Rattle.station.specs.Waits.{numberWait, listeningTime}
 use Rattle.station.specs.declared.Phase.{Phase}
 use Rattle.station.specs.declared.Phase.the-variants.{Off, Listening, Startup, Joining, Participating}
 use Rattle.station.specs.declared.Settings.{Settings}

@@ -2,11 +2,9 @@
 use Prim.Native.Nat.{ℕ}
 use mathlib.Core.Bool.{Bool, true, false, cond}
 use lib.Dec.{eqb}
-use Rattle.area.specs.declared.Areas.{Areas}
 use Rattle.members.specs.Members.{noMembers}
 use Rattle.members.specs.declared.Members.{Members}
 use Rattle.panel.specs.Panel.{blank, taken}
-use Rattle.panel.specs.declared.Panel.{Panel}
 use Rattle.units.specs.declared.Ticks.{Ticks}
 use Rattle.writing.specs.Writing.{noAreas, noWatch}
 use Rattle.station.specs.declared.Gathering.{Gathering}

@@ -1,6 +1,6 @@
 -- A tick (paper 01, "Starting and joining", "The token view and the watch").
 use Prim.Native.Nat.{ℕ, _+_, min}
-use mathlib.Core.Bool.{Bool, true, false, cond, _&&_}
+use mathlib.Core.Bool.{Bool, cond, _&&_}
 use lib.Dec.{eqb, leb, ltb}
 use Rattle.members.specs.Members.{numbersOf, nextAfter, isListed, strikes, missed}
 use Rattle.panel.specs.Panel.{ticked}
@@ -11,7 +11,6 @@ use Rattle.station.specs.Starting.{ownDue, startedUp}
 use Rattle.station.specs.State.{fresh}
 use Rattle.station.specs.Token.{restarted}
 use Rattle.station.specs.Waits.{detectionWait, acceptanceTime, numberWait, listeningTime, watchTicks}
-use Rattle.station.specs.declared.Gathering.{Gathering}
 use Rattle.station.specs.declared.Phase.{Phase}
 use Rattle.station.specs.declared.Phase.the-variants.{Off, Listening, Startup, Joining, Participating}
 use Rattle.station.specs.declared.Settings.{Settings}

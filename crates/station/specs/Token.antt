@@ -1,7 +1,7 @@
 -- Paper 01, "The token view and the watch". "View", "taking" and "silence" are the paper's own terms: a participant's view is the number it
 -- takes to be the holder.
 use Prim.Native.Nat.{ℕ, min}
-use mathlib.Core.Bool.{Bool, true, false, cond, not, _&&_}
+use mathlib.Core.Bool.{Bool, cond, not, _&&_}
 use lib.Dec.{eqb}
 use Rattle.frame.specs.Codes.{isToken}
 use Rattle.frame.specs.declared.Fields.{Fields}

@@ -21,7 +21,7 @@ use Rattle.station.specs.ApartTicking.{station-from}
 use Rattle.station.specs.Asking as asking
 use Rattle.station.specs.Calls.{Call, start, stop, tick, hear, ask, after}
 use Rattle.station.specs.Data.{without}
-use Rattle.station.specs.Gathers.{Parts, more, Gathers, gathers-nothing, gathers-without, before-next}
+use Rattle.station.specs.Gathers.{acceptedAfter, Parts, more, Gathers, gathers-nothing, gathers-without, before-next}
 use Rattle.station.specs.GathersHeard.{hear-gathers}
 use Rattle.station.specs.Hearing.{hearOf}
 use Rattle.station.specs.KeepsAsking.{sound}
@@ -35,7 +35,7 @@ use Rattle.units.specs.declared.Ticks.{Ticks}
 use Rattle.panel.specs.Panel.{ticked}
 use Rattle.station.specs.Waits.{detectionWait, acceptanceTime, numberWait}
 use Rattle.station.specs.declared.Data.the-variants.{Written}
-use Rattle.station.specs.declared.Heard.the-variants as heard
+use Rattle.station.specs.declared.Heard.the-variants as answers
 use Rattle.station.specs.declared.Phase.{Phase}
 use Rattle.station.specs.declared.Phase.the-variants.{Off, Listening, Startup, Joining, Participating}
 use Rattle.station.specs.declared.Settings.{Settings}
@@ -43,64 +43,64 @@ use Rattle.station.specs.declared.Station.{Station}
 use Rattle.station.specs.declared.Token.{Token}
 
 -- one of two states
-either : (test : Bool) (assembly : List ℕ) (a b : Station) → Gathers (a .gathering) assembly → Gathers (b .gathering) assembly
-    → Gathers (cond test a b .gathering) assembly
+either : {heard : List (List ℕ)} (test : Bool) (assembly : List ℕ) (a b : Station) → Gathers heard (a .gathering) assembly → Gathers heard (b .gathering) assembly
+    → Gathers heard (cond test a b .gathering) assembly
 either true assembly a b p q = p
 either false assembly a b p q = q
 
-need-gathers : (test : Bool) (refusal : Refusal) (station : Station) (rest : Switching) (assembly : List ℕ) → Gathers (station .gathering) assembly
-    → Gathers (rest .station .gathering) assembly → Gathers (need test refusal station rest .station .gathering) assembly
+need-gathers : {heard : List (List ℕ)} (test : Bool) (refusal : Refusal) (station : Station) (rest : Switching) (assembly : List ℕ) → Gathers heard (station .gathering) assembly
+    → Gathers heard (rest .station .gathering) assembly → Gathers heard (need test refusal station rest .station .gathering) assembly
 need-gathers true refusal station rest assembly p q = q
 need-gathers false refusal station rest assembly p q = p
 
-module _ (station : Station) (assembly : List ℕ) (g : Gathers (station .gathering) assembly) where
-  ended-gathers : (struck : Bool) → Gathers (cond struck (without (station .view) (station .gathering)) (station .gathering)) assembly
+module _ {heard : List (List ℕ)} (station : Station) (assembly : List ℕ) (g : Gathers heard (station .gathering) assembly) where
+  ended-gathers : (struck : Bool) → Gathers heard (cond struck (without (station .view) (station .gathering)) (station .gathering)) assembly
   ended-gathers true = gathers-without (station .view) (station .gathering) assembly g
   ended-gathers false = g
 
-  started-gathers : (own : Settings) (members : Members) (numbers : List ℕ) → Gathers (startedUp own members numbers .gathering) assembly
+  started-gathers : (own : Settings) (members : Members) (numbers : List ℕ) → Gathers heard (startedUp own members numbers .gathering) assembly
   started-gathers own members [] = gathers-nothing assembly
   started-gathers own members (number ∷ rest) = gathers-nothing assembly
 
-  startup-gathers : (elapsed : Ticks) → Gathers (startupTick station elapsed .gathering) assembly
+  startup-gathers : (elapsed : Ticks) → Gathers heard (startupTick station elapsed .gathering) assembly
   startup-gathers elapsed =
       either (leb acceptanceTime (elapsed .0)) assembly
       (startedUp (station .own) (station .members) (numbersOf (station .members)))
       (counted station (fallsDue station (station .elapsed) elapsed) elapsed (station .waited) (station .panel))
       (started-gathers (station .own) (station .members) (numbersOf (station .members))) g
 
-  joining-gathers : (elapsed : Ticks) → Gathers (joiningTick station elapsed .gathering) assembly
+  joining-gathers : (elapsed : Ticks) → Gathers heard (joiningTick station elapsed .gathering) assembly
   joining-gathers elapsed =
       either (leb detectionWait (elapsed .0)) assembly
       (fresh Listening (station .own))
       (joiningWait station elapsed (cond (eqb (station .rounds) 3) (later (numberWait (station .own .number)) (station .waited)) (station .waited)))
       (gathers-nothing assembly) g
 
-  participant-gathers : (elapsed : Ticks) → Gathers (participantTick station elapsed .gathering) assembly
+  participant-gathers : (elapsed : Ticks) → Gathers heard (participantTick station elapsed .gathering) assembly
   participant-gathers elapsed =
       either (watchEnds station) assembly
       (watchEnded station)
       (counted station (station .own) elapsed (station .waited) (ticked (station .panel)))
       (ended-gathers (isListed (station .members) (station .view) && strikes (station .members) (station .view))) g
 
-  tick-gathers : (phase : Phase) → Gathers (tickedBy phase station .gathering) assembly
+  tick-gathers : (phase : Phase) → Gathers heard (tickedBy phase station .gathering) assembly
   tick-gathers Off = g
   tick-gathers Listening = g
   tick-gathers Startup = startup-gathers (later acceptanceTime (station .elapsed))
   tick-gathers Joining = joining-gathers (later detectionWait (station .elapsed))
   tick-gathers Participating = participant-gathers (later 2550 (station .elapsed))
 
-  sent-gathers : (phase : Phase) → Gathers (asking.sentIn phase station .gathering) assembly
+  sent-gathers : (phase : Phase) → Gathers heard (asking.sentIn phase station .gathering) assembly
   sent-gathers Off = g
   sent-gathers Listening = gathers-nothing assembly
   sent-gathers Startup = g
   sent-gathers Joining = gathers-nothing assembly
   sent-gathers Participating = g
 
-  ask-gathers : (memory turn output : List ℕ) → Gathers (asking.askOf station memory turn output .station .gathering) assembly
+  ask-gathers : (memory turn output : List ℕ) → Gathers heard (asking.askOf station memory turn output .station .gathering) assembly
   ask-gathers memory turn output = by (asking.lentRight memory turn output) (asking.dueIn (station .phase) station)
     where
-      by : (right due : Bool) → Gathers
+      by : (right due : Bool) → Gathers heard
           (cond right
           (cond due
           (asking.written station (asking.turnAfter (station .phase) station memory turn) output)
@@ -110,13 +110,13 @@ module _ (station : Station) (assembly : List ℕ) (g : Gathers (station .gather
       by true false = g
       by false due = g
 
-  start-gathers : (own : Settings) → Gathers (after station (start own) .gathering) assembly
+  start-gathers : (own : Settings) → Gathers heard (after station (start own) .gathering) assembly
   start-gathers own =
       need-gathers (isOff (station .phase)) refusals.NotDue station _ assembly g
       (need-gathers (isStation (own .number) && ltb 0 (own .watch .0)) refusals.Address station _ assembly g
       (need-gathers (inRange (own .areas)) refusals.Area station _ assembly g (gathers-nothing assembly)))
 
-  stop-gathers : Gathers (after station stop .gathering) assembly
+  stop-gathers : Gathers heard (after station stop .gathering) assembly
   stop-gathers = need-gathers (not (isOff (station .phase))) refusals.NotDue station _ assembly g (gathers-nothing assembly)
 
 -- a call that borrows no assembly buffer
@@ -127,21 +127,22 @@ hearsNothing tick = true
 hearsNothing (hear octets memory assembly) = false
 hearsNothing (ask memory turn output) = true
 
--- a state that calls leave since off, each frame heard with the assembly buffer as it was left, and that buffer
-pub data Lending : Station → List ℕ → Type 0 where
-  begins : (assembly : List ℕ) → Lending never assembly
-  hears : {station : Station} {assembly : List ℕ} → Lending station assembly → (octets memory : List ℕ) → ((at : ℕ) → getD octets at 0 < 256)
-      → Lending (hearOf station octets memory assembly .station) (hearOf station octets memory assembly .assembly)
-  calls : {station : Station} {assembly : List ℕ} → Lending station assembly → (call : Call) → Typed call → hearsNothing call ≡ true
-      → Lending (after station call) assembly
+-- the cyclic frames accepted since off, the latest first, with the state that all calls leave, each frame heard with the assembly buffer as it was
+-- left, and that buffer
+pub data Lending : List (List ℕ) → Station → List ℕ → Type 0 where
+  begins : (assembly : List ℕ) → Lending [] never assembly
+  hears : {heard : List (List ℕ)} {station : Station} {assembly : List ℕ} → Lending heard station assembly → (octets memory : List ℕ) → ((at : ℕ) → getD octets at 0 < 256)
+      → Lending (acceptedAfter (hearOf station octets memory assembly .answer) octets heard) (hearOf station octets memory assembly .station) (hearOf station octets memory assembly .assembly)
+  calls : {heard : List (List ℕ)} {station : Station} {assembly : List ℕ} → Lending heard station assembly → (call : Call) → Typed call → hearsNothing call ≡ true
+      → Lending heard (after station call) assembly
 
-pub lending-reached : {station : Station} {assembly : List ℕ} → Lending station assembly → Reachable station
+pub lending-reached : {heard : List (List ℕ)} {station : Station} {assembly : List ℕ} → Lending heard station assembly → Reachable station
 lending-reached (begins assembly) = unstarted
 lending-reached (hears {assembly = assembly} before octets memory typed) = called (hear octets memory assembly) (lending-reached before) typed
 lending-reached (calls before call typed other) = called call (lending-reached before) typed
 
-call-gathers : (station : Station) (assembly : List ℕ) (call : Call) → hearsNothing call ≡ true → Gathers (station .gathering) assembly
-    → Gathers (after station call .gathering) assembly
+call-gathers : {heard : List (List ℕ)} (station : Station) (assembly : List ℕ) (call : Call) → hearsNothing call ≡ true → Gathers heard (station .gathering) assembly
+    → Gathers heard (after station call .gathering) assembly
 call-gathers station assembly (start settings) e g = start-gathers station assembly g settings
 call-gathers station assembly stop e g = stop-gathers station assembly g
 call-gathers station assembly tick e g = tick-gathers station assembly g (station .phase)
@@ -149,20 +150,21 @@ call-gathers station assembly (hear octets memory lent) e g = absurd (false≢tr
 call-gathers station assembly (ask memory turn output) e g = ask-gathers station assembly g memory turn output
 
 -- what is gathered stands at the front of that buffer
-pub lending-gathers : (station : Station) (assembly : List ℕ) → Lending station assembly → Gathers (station .gathering) assembly
+pub lending-gathers : {heard : List (List ℕ)} (station : Station) (assembly : List ℕ) → Lending heard station assembly → Gathers heard (station .gathering) assembly
 lending-gathers _ _ (begins assembly) = gathers-nothing assembly
 lending-gathers _ _ (hears {station = station} {assembly = assembly} before octets memory typed) =
     hear-gathers station octets memory assembly (sound station (lending-reached before)) (lending-gathers station assembly before)
 lending-gathers _ _ (calls {station = station} {assembly = assembly} before call typed other) =
     call-gathers station assembly call other (lending-gathers station assembly before)
 
--- Each turn that is written is blocks 1 to the last of its source.
-pub turn-whole : (station : Station) (assembly : List ℕ) → Lending station assembly → (octets memory : List ℕ) (token : Token)
-    → hearOf station octets memory assembly .answer ≡ heard.Cyclic token → dataOf token ≡ Written
+-- Each turn that is written is blocks 1 to the last of its source, in order, which are the latest cyclic frames accepted, the one just heard
+-- included.
+pub turn-whole : {heard : List (List ℕ)} (station : Station) (assembly : List ℕ) → Lending heard station assembly → (octets memory : List ℕ) (token : Token)
+    → hearOf station octets memory assembly .answer ≡ answers.Cyclic token → dataOf token ≡ Written
     → (frame : Fields) × Whole station octets memory assembly frame
-    × Parts (frame .source) (frame .block)
+    × Parts (frame .source) (octets ∷ heard) (frame .block)
     (take (octetsOf (entryOf (station .members) (frame .source) .areas)) (hearOf station octets memory assembly .assembly))
-turn-whole station assembly lending octets memory token e w =
+turn-whole {heard} station assembly lending octets memory token e w =
     let reached = lending-reached lending in
     let found = turn-joined station reached octets memory assembly token e w in
     let frame : Fields = found .0 in
@@ -171,7 +173,7 @@ turn-whole station assembly lending octets memory token e w =
     let some = nonzero (frame .source) from in
     let parts = before-next (station .gathering) frame assembly (lending-gathers station assembly lending) some (eqb (frame .block) 1)
     (eqb (station .gathering .source) (frame .source)) (eqb (station .gathering .blocks + 1) (frame .block)) refl refl refl (whole .next) in
-    (frame, whole, subst (Parts (frame .source) (frame .block)) (sym (found .3)) (more (parts .1) octets frame (whole .header) (whole .body) (whole .cyclic) refl (parts .2)))
+    (frame, whole, subst (Parts (frame .source) (octets ∷ heard) (frame .block)) (sym (found .3)) (more (parts .1) octets frame (whole .header) (whole .body) (whole .cyclic) refl (parts .2)))
   where
     nonzero : (n : ℕ) → 1 ≤ n → eqb n 0 ≡ false
     nonzero n h = ne-eqb n 0 (λ q. omega arith)
