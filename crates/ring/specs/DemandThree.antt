@@ -7,7 +7,7 @@ use native.Mathlib.Omega.{arith}
 use lib.ListN.{length}
 use Rattle.members.specs.Members.{firstOf}
 use Rattle.reading.specs.Reading.{isStation}
-use Rattle.settling.specs.First.{FirstAgreement}
+use Rattle.settling.specs.First.{FirstAgreement, first-exists, agreed?}
 use Rattle.settling.specs.Next.{laws-of}
 use Rattle.settling.specs.Ring.{_∈_, next}
 use Rattle.settling.specs.Simulation.{AllAgreed, MachineSettles, Moved, Simulates, machine-settles}
@@ -88,3 +88,11 @@ module _ {numbers : List ℕ} {stations : Stations} (ring : Disturbed numbers st
       → FirstAgreement afterEvent (AllAgreed (ringMachine numbers) numbers) stations events before later
       → MachineSettles (ringMachine numbers) numbers stations before later
   demand-three come first = machine-settles simulates (ring .ring) begins come first
+
+  -- Every list has such a first time (and only one: `first-unique`), so the whole is said of every list that can come.
+  pub demand-three-whole : (events : List Event) → EachFinds afterEvent (CanCome numbers) stations events
+      → (before : List Event) × (later : List Event) × FirstAgreement afterEvent (AllAgreed (ringMachine numbers) numbers) stations events before later
+      × MachineSettles (ringMachine numbers) numbers stations before later
+  demand-three-whole events come =
+      let found = first-exists afterEvent (AllAgreed (ringMachine numbers) numbers) (λ now. agreed? numbers (viewsOf now)) stations events in
+      (found .0, found .1, found .2, demand-three come (found .2))
