@@ -117,6 +117,14 @@ listed-of members x m =
     let s : f .0 ≡ x = omega arith in
     subst (λ (n : ℕ). isListed members n ≡ true) s (f .2)
 
+-- who is in the list with ours is ourselves or listed
+pub in-ring : (ours : ℕ) (members : Members) (x : ℕ) → x ∈ ringOf ours members → (x ≡ ours) ⊎ (isListed members x ≡ true)
+in-ring ours members x m = by (which ours (numbersOf members) x m)
+  where
+    by : (x ≡ ours) ⊎ (x ∈ numbersOf members) → (x ≡ ours) ⊎ (isListed members x ≡ true)
+    by (inl p) = inl p
+    by (inr n) = inr (listed-of members x n)
+
 module _ {ours : ℕ} {members : Members} (ok : Listed ours members) where
   -- the ring of a list that is sound
   pub ring-stations : Stations (ringOf ours members)
@@ -135,11 +143,3 @@ module _ {ours : ℕ} {members : Members} (ok : Listed ours members) where
   listed-in-ring x e =
       let s : 0 + x ≡ x = omega arith in
       others-in ours (numbersOf members) x (subst (λ (n : ℕ). n ∈ numbersOf members) s (stands (members .entries) 0 x e))
-
-  -- and nobody else
-  pub in-ring : (x : ℕ) → x ∈ ringOf ours members → (x ≡ ours) ⊎ (isListed members x ≡ true)
-  in-ring x m = by (which ours (numbersOf members) x m)
-    where
-      by : (x ≡ ours) ⊎ (x ∈ numbersOf members) → (x ≡ ours) ⊎ (isListed members x ≡ true)
-      by (inl p) = inl p
-      by (inr n) = inr (listed-of members x n)
