@@ -39,7 +39,7 @@ module _ {numbers : List ℕ} {number : ℕ} {station : Station} (in-ring : InRi
         (record {
           participates = in-ring .participates;
           other = λ e. other (e ∙ in-ring .own);
-          source = known-ring (frame .source) source;
-          destination = known-ring (frame .destination) destination;
+          source = λ cyclic. known-ring (frame .source) source;
+          destination = λ token. known-ring (frame .destination) destination;
         })
         cyclic

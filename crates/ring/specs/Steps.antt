@@ -5,9 +5,9 @@ use mathlib.Core.List.{List}
 use Prim.Native.Nat.{ℕ, _≤_, min}
 use native.Mathlib.Decide.{ℕ-discrete, decLe}
 use native.Mathlib.Omega.{arith}
-use lib.Dec.{eqb}
+use lib.Dec.{eqb, ltb}
 use lib.ListN.{take}
-use borrow.Author.Tests.{eq-eqb, ne-eqb, le-leb, lt-leb}
+use borrow.Author.Tests.{eq-eqb, ne-eqb, le-leb, lt-leb, lt-ltb}
 use Rattle.block.specs.Blocks.{blocksOf}
 use Rattle.frame.specs.Codes.{isToken, isCyclic}
 use Rattle.frame.specs.declared.Code.the-variants.{Token, Cyclic}
@@ -104,12 +104,15 @@ module _ (numbers : List ℕ) (laws-next : (x : ℕ) → x ∈ numbers → next 
       pub idle-answer : holds station ≡ false → asking.askOf station memory turn output .answer ≡ answers.Refused refusals.NotDue
       idle-answer e = rw (lent, in-ring .participates, e)
 
+      within : ltb (station .block) (blocksOf (station .own .areas)) ≡ true
+      within = lt-ltb _ _ (in-ring .place)
+
       -- a holder sends a block
       pub asked-station : holds station ≡ true → asking.askOf station memory turn output .station ≡ asking.blockSent station
-      asked-station e = rw (lent, in-ring .participates, e)
+      asked-station e = rw (lent, in-ring .participates, e, in-ring .areas, within)
 
       pub asked-answer : holds station ≡ true → asking.askOf station memory turn output .answer ≡ answers.Octets (wholeLength sends)
-      asked-answer e = rw (lent, in-ring .participates, e)
+      asked-answer e = rw (lent, in-ring .participates, e, in-ring .areas, within)
 
       -- and what it writes reads back
       pub asked-read : holds station ≡ true → readOf (take (wholeLength sends) (asking.askOf station memory turn output .output)) ≡ Frame sends

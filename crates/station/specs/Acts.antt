@@ -1,33 +1,39 @@
--- What a station does, in laws that follow from the rules at once. By the first of them the ring of demand 3 sees a station: how a token frame,
--- a silence and a pass move a view, restart the watch and keep the list. Assumes nothing.
+-- What a station does, before anything is proved of all stations: the law by which the ring of demand 3 sees a token frame move a view, and the
+-- rules worked out for stations 1, 2 and 3, each against numbers that the paper's sentences give. Assumes nothing.
 use mathlib.Core.Path.{_≡_, refl, sym}
 use mathlib.Core.Bool.{true, false}
 use mathlib.Core.List.{List, []}
-use Prim.Native.Nat.{ℕ}
+use Prim.Native.Nat.{ℕ, zero, suc}
 use native.Mathlib.Decide.{ℕ-discrete}
 use lib.Dec.{eqb}
-use lib.ListN.{replicate}
+use lib.ListN.{getD, replicate}
 use borrow.Author.Tests.{eq-eqb, ne-eqb}
 use Rattle.area.specs.declared.Areas.{Areas}
-use Rattle.frame.specs.declared.Fields.{Fields}
-use Rattle.frame.specs.declared.Refusal.{Refusal}
+use Rattle.frame.specs.Positions.{DNA, CBN}
+use Rattle.frame.specs.declared.Refusal.the-variants as refusals
 use Rattle.members.specs.Listing.{listing}
-use Rattle.members.specs.Members.{missed, noMembers, ringOf}
+use Rattle.members.specs.Members.{noMembers, entryOf, isListed, missesSet, struck, withEntry}
+use Rattle.members.specs.declared.Members.{Members}
 use Rattle.reading.specs.Reading.{fieldsOf}
 use Rattle.round_trip.specs.Sent.{blockFields}
 use Rattle.settling.specs.Ring.{next, viewAfterPass}
-use Rattle.station.specs.Asking.{nextBlock, dueFields, isLast, blockSent}
-use Rattle.station.specs.Data.{Gathered, storing}
-use Rattle.station.specs.Hearing.{Hearing, afterTaken, participantHeard, refused, hearOf}
-use Rattle.station.specs.State.{begun, isParticipating}
-use Rattle.station.specs.Ticking.{tickOf, watchEnded}
+use Rattle.station.specs.Asking.{Asking, askOf}
+use Rattle.station.specs.Hearing.{Hearing, relisted, hearOf}
+use Rattle.station.specs.State.{begun, fresh, nothing, stopped}
+use Rattle.station.specs.Ticking.{tickOf}
 use Rattle.station.specs.Token.{viewAfter}
-use Rattle.station.specs.declared.Data.the-variants.{Written}
+use Rattle.station.specs.declared.Data.the-variants.{Kept, Written}
 use Rattle.station.specs.declared.Heard.the-variants as answers
-use Rattle.station.specs.declared.Phase.the-variants.{Participating}
+use Rattle.station.specs.declared.Phase.the-variants.{Startup, Listening}
+use Rattle.station.specs.declared.Settings.{Settings}
 use Rattle.station.specs.declared.Station.{Station}
 use Rattle.station.specs.declared.Token.the-variants as tokens
+use Rattle.units.specs.declared.Milliseconds.{Milliseconds}
 use Rattle.writing.specs.Writing.{noAreas, frameOf, headerOf, frontOf, backOf, fixedFor}
+
+-- A rival is dropped by its larger destination, whatever its source: "9, 2 to 5: 5", "5, 7 to 9: 5".
+smaller-destination : (viewAfter 9 2 5 ≡ 5) × (viewAfter 5 7 9 ≡ 5)
+smaller-destination = (refl, refl)
 
 -- A view after a token frame to the next station, said by the station and by the ring of views.
 pub same-move : (numbers : List ℕ) (who view : ℕ) → viewAfter view who (next numbers who) ≡ viewAfterPass numbers who view
@@ -37,65 +43,130 @@ same-move numbers who view = by (ℕ-discrete who view)
     by (yes e) = rw (eq-eqb who view e, eq-eqb view who (sym e))
     by (no n) = rw (ne-eqb who view n, ne-eqb view who (λ e. n (sym e)))
 
--- The end of a watch moves the view to the next after it, whatever it was,
-pub silence-moves : (station : Station) → watchEnded station .view ≡ next (ringOf (station .own .number) (station .members)) (station .view)
-silence-moves station = refl
+-- The stations: a watch time of 1 ms, which is ten ticks. Station 2 has 513 words of area 2, which are two blocks, the others have nothing.
+abbrev watch : Milliseconds
+watch = record { 0 = 1 }
 
--- and gives a miss to the station in view, to no other.
-pub silence-misses : (station : Station) → watchEnded station .members ≡ missed (station .members) (station .view)
-silence-misses station = refl
+abbrev wide : Areas
+wide = record { one = record { address = 0; size = 0 }; two = record { address = 0; size = 513 } }
 
--- Every accepted cyclic frame restarts the watch, whoever sent it.
-pub frame-restarts : (station : Station) (frame : Fields) (got : Gathered) → participantHeard station frame got .station .elapsed .0 ≡ 0
-frame-restarts station frame got = refl
+abbrev all : Members
+all = listing (listing (listing noMembers 1 noAreas watch noAreas) 2 wide watch noAreas) 3 noAreas watch noAreas
 
--- A holder's frame goes to the next station, with the token in the last block; its own view goes there with it.
-pub passes-on : (station : Station) → dueFields Participating station .destination
-    ≡ next (ringOf (station .own .number) (station .members)) (station .own .number)
-passes-on station = refl
+-- a participant that lists the two others, with a view
+abbrev among : ℕ → Areas → ℕ → Station
+among number areas view = begun (record { number = number; areas = areas; watch = watch }) (struck all number) view
 
-pub pass-moves : (station : Station) → isLast station ≡ true → blockSent station .view ≡ dueFields Participating station .destination
-pass-moves station e = rw (e)
+abbrev ticks : ℕ → Station → Station
+ticks zero station = station
+ticks (suc count) station = ticks count (tickOf station .station)
 
--- Each block has its own number,
-pub block-number : (station : Station) → dueFields Participating station .block ≡ nextBlock station
-block-number station = refl
+abbrev zeros : List ℕ
+zeros = replicate 17408 0
 
--- and before the last one nothing is written to the common memory.
-pub kept-unwritten : (listed : Areas) (frame : Fields) (assembly memory : List ℕ) → eqb (frame .block) (frame .blocks) ≡ false →
-    storing listed frame assembly memory .memory ≡ memory
-kept-unwritten listed frame assembly memory e = rw (e)
+-- a frame of one block from a station that has nothing
+abbrev token : ℕ → ℕ → List ℕ
+token source destination = frameOf (blockFields source destination noAreas watch 1) []
 
--- A refusal leaves the common memory, and number 6 leaves a participant on.
-pub refused-memory : (station : Station) (memory assembly : List ℕ) (refusal : Refusal) → refused station memory assembly refusal .memory ≡ memory
-refused-memory station memory assembly refusal = refl
+-- one block of station 2's turn, all octets 7, the last with the token for station 3
+abbrev part : ℕ → List ℕ
+part block = frameOf (blockFields 2 3 wide watch block) (replicate 1024 7)
 
-pub stays-on : (station : Station) → isParticipating (station .phase) ≡ true → afterTaken station ≡ station
-stays-on station e = rw (e)
+abbrev hears : Station → List ℕ → List ℕ → Hearing
+hears station octets memory = hearOf station octets memory zeros
 
--- Worked: station 1 participates with station 2 in its list and in its view, no areas, and the longest watch.
-abbrev one : Station
-one =
-    begun (record { number = 1; areas = noAreas; watch = record { 0 = 255 } })
-    (listing noMembers 2 noAreas (record { 0 = 255 }) noAreas)
-    2
+abbrev asks : Station → Asking
+asks station = askOf station zeros zeros zeros
 
-abbrev large : List ℕ
-large = replicate 17408 0
+-- A tick counts, on the watch and on the panel; a tick at the end of the watch too.
+tick-counted : (tickOf (among 1 noAreas 2) .station .elapsed .0 ≡ 1) × (ticks 10 (among 1 noAreas 2) .panel .running .0 ≡ 10)
+tick-counted = (refl, refl)
 
--- station 2 passes it the token
-abbrev got : Hearing
-got = hearOf one (frameOf (blockFields 2 1 noAreas (record { 0 = 255 }) 1) []) large large
+-- "three stations with views 2, 3, 1": after a silence they have 3, 1 and 2, so nobody waits forever.
+silence-moves :
+    (ticks 10 (among 1 noAreas 2) .view ≡ 3) × (ticks 10 (among 2 wide 3) .view ≡ 1) × (ticks 10 (among 3 noAreas 1) .view ≡ 2)
+silence-moves = (refl, refl, refl)
 
--- its token frame is accepted, with its turn of no octets written, and is a taking;
-token-heard : got .answer ≡ answers.Cyclic (tokens.OursNow Written)
+-- The station in view gets one miss and the other none. A third miss strikes it, and the other stays.
+silence-misses :
+    (entryOf (ticks 10 (among 1 noAreas 2) .members) 2 .misses ≡ 1) × (entryOf (ticks 10 (among 1 noAreas 2) .members) 3 .misses ≡ 0)
+silence-misses = (refl, refl)
+
+abbrev missedTwice : Station
+missedTwice =
+    relisted (among 1 noAreas 2) (withEntry (struck all 1) 2 (missesSet 2 (entryOf all 2))) nothing
+
+third-miss : (isListed (ticks 10 missedTwice .members) 2 ≡ false) × (isListed (ticks 10 missedTwice .members) 3 ≡ true)
+third-miss = (refl, refl)
+
+-- A token frame for us is accepted, with its turn of no octets written, and is a taking.
+token-heard : hears (among 1 noAreas 3) (token 3 1) zeros .answer ≡ answers.Cyclic (tokens.OursNow Written)
 unfolding headerOf frontOf backOf fixedFor fieldsOf
 token-heard = refl
 
-taking-counted : got .station .panel .takings ≡ 1
+taking-counted : hears (among 1 noAreas 3) (token 3 1) zeros .station .panel .takings ≡ 1
 unfolding headerOf frontOf backOf fixedFor fieldsOf
 taking-counted = refl
 
--- and a tick counts.
-tick-counted : (tickOf one .station .elapsed .0 ≡ 1) × (tickOf one .station .panel .running .0 ≡ 1)
-tick-counted = (refl, refl)
+-- A frame restarts the watch, from a station that is not in view: nine ticks have come, and then none.
+frame-restarts : (ticks 9 (among 1 noAreas 2) .elapsed .0 ≡ 9) × (hears (ticks 9 (among 1 noAreas 2)) (token 3 1) zeros .station .elapsed .0 ≡ 0)
+unfolding headerOf frontOf backOf fixedFor fieldsOf
+frame-restarts = (refl, refl)
+
+-- A holder passes to the next: 1 to 2, and 3 to 1. Its frame says so, and its view goes there.
+passes-on : (getD (asks (among 1 noAreas 1) .output) DNA 0 ≡ 2) × (getD (asks (among 3 noAreas 3) .output) DNA 0 ≡ 1)
+unfolding headerOf frontOf backOf fixedFor
+passes-on = (refl, refl)
+
+pass-moves : (asks (among 1 noAreas 1) .station .view ≡ 2) × (asks (among 3 noAreas 3) .station .view ≡ 1)
+pass-moves = (refl, refl)
+
+-- Station 2 sends block 1 and keeps the token, then block 2 with the token; the turn after it begins with block 1 again.
+block-numbers :
+    (getD (asks (among 2 wide 2) .output) CBN 0 ≡ 1)
+    × (getD (asks (asks (among 2 wide 2) .station) .output) CBN 0 ≡ 2)
+    × (asks (asks (among 2 wide 2) .station) .station .block ≡ 0)
+unfolding headerOf frontOf backOf fixedFor
+block-numbers = (refl, refl, refl)
+
+-- Station 1 hears block 1 and keeps it, and the common memory has none of it; with block 2 it has both.
+abbrev half : Hearing
+half = hears (among 1 noAreas 2) (part 1) zeros
+
+kept-unwritten : (half .answer ≡ answers.Cyclic (tokens.None Kept)) × (getD (half .memory) 1024 1 ≡ 0)
+unfolding headerOf frontOf backOf fixedFor fieldsOf
+kept-unwritten = (refl, refl)
+
+abbrev full : Hearing
+full = hearOf (half .station) (part 2) zeros (half .assembly)
+
+then-written : (full .answer ≡ answers.Cyclic (tokens.PassedOn Written)) × (getD (full .memory) 1024 1 ≡ 7) × (getD (full .memory) 2049 1 ≡ 7)
+unfolding headerOf frontOf backOf fixedFor fieldsOf
+then-written = (refl, refl, refl)
+
+-- A frame that is refused leaves the common memory.
+refused-memory :
+    (hears (among 1 noAreas 2) [] (replicate 17408 5) .answer ≡ answers.Refused refusals.Cut)
+    × (getD (hears (among 1 noAreas 2) [] (replicate 17408 5) .memory) 0 1 ≡ 5)
+refused-memory = (refl, refl)
+
+-- Number 6 leaves a participant as it was, and turns off a station that only listens.
+stays-on :
+    (hears (among 1 noAreas 2) (token 1 2) zeros .answer ≡ answers.Refused refusals.Taken)
+    × (hears (among 1 noAreas 2) (token 1 2) zeros .station ≡ among 1 noAreas 2)
+unfolding headerOf frontOf backOf fixedFor fieldsOf
+stays-on = (refl, refl)
+
+abbrev listens : Station
+listens = fresh Listening (record { number = 1; areas = wide; watch = watch })
+
+turned-off : hears listens (token 1 2) zeros .station ≡ stopped listens
+unfolding headerOf frontOf backOf fixedFor fieldsOf
+turned-off = refl
+
+-- Our areas overlap those of station 2, and our request falls due in the fortieth tick: then both our sizes are 0.
+abbrev starts : Station
+starts = relisted (fresh Startup (record { number = 1; areas = wide; watch = watch })) (struck all 1) nothing
+
+areas-emptied : (ticks 39 starts .own .areas ≡ wide) × (ticks 40 starts .own .areas ≡ noAreas)
+areas-emptied = (refl, refl)

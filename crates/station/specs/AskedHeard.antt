@@ -1,27 +1,31 @@
 -- Every frame asked for is accepted by whoever knows its sender and its destination. Assumes nothing.
 use mathlib.Core.Path.{_≡_, refl, ap, _∙_}
-use mathlib.Core.Bool.{Bool, true, false, cond, not, _&&_, or-true, and-false}
+use mathlib.Core.Bool.{Bool, true, false, cond, not, _&&_, _||_, and-false, and-true}
 use mathlib.Core.List.{List}
 use Prim.Native.Nat.{ℕ}
 use native.Mathlib.Omega.{arith}
 use lib.Dec.{eqb}
 use lib.ListN.{length, take}
-use borrow.Author.Tests.{ne-eqb}
-use Rattle.frame.specs.Codes.{isCyclic}
+use borrow.Author.Tests.{ne-eqb, lt-ltb}
+use Rattle.block.specs.Blocks.{blocksOf}
+use Rattle.frame.specs.Codes.{isToken, isCyclic}
+use Rattle.frame.specs.declared.Code.{Code}
+use Rattle.frame.specs.declared.Code.the-variants.{Token, Cyclic, Request, Trigger}
 use Rattle.frame.specs.declared.Fields.{Fields}
 use Rattle.frame.specs.declared.Refusal.the-variants as refusals
+use Rattle.laws.specs.Tests.{both}
 use Rattle.reading.specs.Reading.{readOf, readHeaderOf, readBodyOf, dataOf}
 use Rattle.reading.specs.declared.Read.the-variants.{Frame}
 use Rattle.round_trip.specs.Accepted.{Accepted, accepted as passed}
 use Rattle.station.specs.Asked.{CanSend, asked-back}
-use Rattle.station.specs.Asking.{lentRight as lentRightToAsk, askOf, dueFields}
+use Rattle.station.specs.Asking.{lentRight as lentRightToAsk, isPlaced, dueIn, askOf, dueFields}
 use Rattle.station.specs.Calls.{hear, taken, verdict, heardVerdict}
 use Rattle.station.specs.Data.{gathered}
 use Rattle.station.specs.Hearing.{Hearing, isTaken, isStranger, knows, lentRight, participantHeard, accepted, hearOf}
 use Rattle.station.specs.KeepsAsking.{sound}
 use Rattle.station.specs.ListKept.{next-station}
 use Rattle.station.specs.Reachable.{Reachable}
-use Rattle.station.specs.State.{isParticipating, isOff}
+use Rattle.station.specs.State.{isParticipating, isOff, holds}
 use Rattle.station.specs.declared.Asked.the-variants.{Octets, Refused}
 use Rattle.station.specs.declared.Data.the-variants.{Dropped}
 use Rattle.station.specs.declared.Heard.the-variants as answers
@@ -37,12 +41,13 @@ header-read a = simp (a .is-whole, a .is-marked, a .is-long, a .is-coded, a .hol
 pub body-read : {s : List ℕ} {fields : Fields} → Accepted s fields → readBodyOf (length s) fields ≡ Frame fields
 body-read a = simp (a .is-ranged, a .is-blocked)
 
--- a participant that lists the sender, and lists the destination or is it, and is not the sender
+-- a participant that lists the sender, and lists the destination or is it, and is not the sender. A request or a trigger may come from a
+-- station that is not listed yet, and goes to 255: there only `other` is asked.
 pub record Listens (listener : Station) (frame : Fields) : Type 0 where
   pub participates : listener .phase ≡ Participating
   pub other : ¬ (frame .source ≡ listener .own .number)
-  pub source : knows listener (frame .source) ≡ true
-  pub destination : knows listener (frame .destination) ≡ true
+  pub source : isCyclic (frame .code) ≡ true → knows listener (frame .source) ≡ true
+  pub destination : isToken (frame .code) ≡ true → knows listener (frame .destination) ≡ true
 
 module _ (listener : Station) (octets memory assembly : List ℕ) (frame : Fields) (read : readOf octets ≡ Frame frame)
     (lent : lentRight memory assembly ≡ true) (listens : Listens listener frame) where
@@ -53,7 +58,17 @@ module _ (listener : Station) (octets memory assembly : List ℕ) (frame : Field
       rw (different, and-false (not (isOff (listener .phase))))
 
   no-stranger : isStranger listener frame ≡ false
-  no-stranger = simp (listens .source, listens .destination, or-true, and-false)
+  no-stranger = by (frame .code) (listens .source) (listens .destination)
+    where
+      by : (code : Code) →
+          (isCyclic code ≡ true → knows listener (frame .source) ≡ true) → (isToken code ≡ true → knows listener (frame .destination) ≡ true) →
+          (isParticipating (listener .phase) && isCyclic code)
+          && not (knows listener (frame .source) && (not (isToken code) || knows listener (frame .destination)))
+          ≡ false
+      by Token source destination = rw (source refl, destination refl) (and-false (isParticipating (listener .phase) && true))
+      by Cyclic source destination = rw (source refl) (and-false (isParticipating (listener .phase) && true))
+      by Request source destination = rw (and-false (isParticipating (listener .phase)))
+      by Trigger source destination = rw (and-false (isParticipating (listener .phase)))
 
   pub heard-accepted : hearOf listener octets memory assembly ≡ accepted listener frame octets memory assembly
   heard-accepted =
@@ -91,6 +106,17 @@ can-send station reached on =
       place = s .place;
     }
 
+-- its place is always one of its turn's blocks, so that "A participant has a frame due whenever it holds, and at no other time."
+pub always-placed : (station : Station) → Reachable station → isOff (station .phase) ≡ false → isPlaced station ≡ true
+always-placed station reached on =
+    let can = can-send station reached on in
+    both (can .areas) (lt-ltb (station .block) (blocksOf (station .own .areas)) (can .place))
+
+pub holder-due : (station : Station) → Reachable station → station .phase ≡ Participating → dueIn (station .phase) station ≡ holds station
+holder-due station reached e =
+    let placed : isPlaced station ≡ true = always-placed station reached (rw e) in
+    rw (e, placed) (and-true (holds station))
+
 -- an off station has no frame due
 asked-on : (station : Station) (memory turn output : List ℕ) (count : ℕ) → askOf station memory turn output .answer ≡ Octets count →
     isOff (station .phase) ≡ false
@@ -116,7 +142,8 @@ pub frame-asked : (station : Station) → Reachable station → (memory turn out
 frame-asked station reached memory turn output count e =
     asked-back station memory turn output count (can-send station reached (asked-on station memory turn output count e)) e
 
--- and every participant that lists the sender, and lists the destination or is it, and is not the sender, accepts it.
+-- and every participant that lists the sender, and lists the destination or is it, and is not the sender, accepts it; a request or a trigger
+-- is accepted by every participant that is not the sender.
 pub frame-accepted : (station : Station) → Reachable station → (memory turn output : List ℕ) (count : ℕ) →
     askOf station memory turn output .answer ≡ Octets count →
     (listener : Station) → Listens listener (dueFields (station .phase) station) →

@@ -2,9 +2,9 @@
 use Prim.Native.Nat.{ℕ, _+_}
 use mathlib.Core.Bool.{Bool, true, false, cond, not, _&&_}
 use mathlib.Core.List.{List}
-use lib.Dec.{eqb, leb}
+use lib.Dec.{eqb, leb, ltb}
 use lib.ListN.{length, drop}
-use Rattle.area.specs.Areas.{memoryOctets}
+use Rattle.area.specs.Areas.{inRange, memoryOctets}
 use Rattle.block.specs.Blocks.{blocksOf, startOf}
 use Rattle.copying.specs.Pasted.{pasted}
 use Rattle.frame.specs.declared.Fields.{Fields}
@@ -30,6 +30,11 @@ pub record Asking : Type 0 where
   pub turn : List ℕ
   pub output : List ℕ
 
+-- our place in our turn is one of its blocks, which always holds where calls alone made the state (`always-placed`): what could not be sent is
+-- not due
+abbrev pub isPlaced : Station → Bool
+isPlaced station = inRange (station .own .areas) && ltb (station .block) (blocksOf (station .own .areas))
+
 -- whether a frame is due: a trigger in listening; our request in ring startup until it is sent, and in joining; "A participant has a frame due
 -- whenever it holds, and at no other time."
 abbrev pub dueIn : Phase → Station → Bool
@@ -37,7 +42,7 @@ dueIn Off station = false
 dueIn Listening station = triggerDue station
 dueIn Startup station = requestFallen Startup station && not (station .sent)
 dueIn Joining station = requestFallen Joining station
-dueIn Participating station = holds station
+dueIn Participating station = holds station && isPlaced station
 
 -- the block that is sent next
 abbrev pub nextBlock : Station → ℕ

@@ -11,7 +11,7 @@ use Rattle.frame.specs.declared.Refusal.the-variants as refusals
 use Rattle.laws.specs.Tests.{first}
 use Rattle.reading.specs.Reading.{isStation}
 use Rattle.writing.specs.Writing.{noAreas, noWatch}
-use Rattle.station.specs.Asking.{dueIn, nextBlock, isLast, nextStation, turnAfter, requestSent, blockSent, sentIn, lentRight, refused, written, askOf}
+use Rattle.station.specs.Asking.{isPlaced, dueIn, nextBlock, isLast, nextStation, turnAfter, requestSent, blockSent, sentIn, lentRight, refused, written, askOf}
 use Rattle.station.specs.Calls.{Call, start, stop, tick, hear, ask, after}
 use Rattle.station.specs.KeepsHearing.{hear-sound}
 use Rattle.station.specs.KeepsStarting.{taken-shown, off-sound, startup-sound, begun-sound, start-sound, stop-sound}
@@ -87,7 +87,7 @@ module _ (station : Station) (ok : Sound station) where
   sent-sound Listening e due = startup-sound (station .own) (ok .ours (rw e))
   sent-sound Startup e due = request-sound e (first (requestFallen Startup station) (not (station .sent)) due)
   sent-sound Joining e due = begun-sound (station .own) (station .members) (station .view) (ok .ours (rw e)) (ok .list) (ok .view (rw e))
-  sent-sound Participating e due = block-sound e due
+  sent-sound Participating e due = block-sound e (first (holds station) (isPlaced station) due)
 
   pub ask-sound : (memory turn output : List ℕ) → Sound (askOf station memory turn output .station)
   ask-sound memory turn output = by (lentRight memory turn output) (dueIn (station .phase) station) refl

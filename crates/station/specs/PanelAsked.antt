@@ -9,6 +9,7 @@ use lib.Dec.{eqb, leb}
 use Rattle.block.specs.Blocks.{blocksOf}
 use Rattle.frame.specs.Codes.{isToken}
 use Rattle.frame.specs.declared.Code.the-variants.{Token, Cyclic}
+use Rattle.laws.specs.Tests.{first}
 use Rattle.frame.specs.declared.Refusal.the-variants as refusals
 use Rattle.panel.specs.Panel.{taken}
 use Rattle.station.specs.Asking as asking
@@ -70,7 +71,7 @@ writes Off station due = leave refl (λ clear. clear refl)
 writes Listening station due = leave refl (λ clear. refl)
 writes Startup station due = leave refl (λ clear. clear refl)
 writes Joining station due = begin Joining station false (station .own) (station .members) (station .view) refl
-writes Participating station due = sends station due
+writes Participating station due = sends station (first (holds (us station)) (asking.isPlaced (us station)) due)
 
 pub ask-moves : (phase : Phase) (station : Station) (memory turn output : List ℕ) →
     Moves (in-phase phase station) false (passedBy (in-phase phase station) (asking.askOf (in-phase phase station) memory turn output .answer))
