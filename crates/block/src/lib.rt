@@ -2,7 +2,7 @@
 use area::Areas;
 ghost use mathlib.Core.Path.{_≡_};
 ghost use Prim.Native.Nat.{_-_, min};
-ghost use Rattle.block.specs.Blocks.{octetsOf, blocksOf, lengthOf};
+ghost use Rattle.block.specs.Blocks.{octetsOf, blocksOf, startOf, lengthOf};
 
 fn least(a: usize, b: usize) -> usize
     ensures { λ r. ⌜ r ≡ min a b ⌝ }
@@ -36,10 +36,17 @@ pub fn blocks(areas: Areas) -> usize
     }
 }
 
+// Where a block starts in its turn.
+pub fn block_start(block: u8) -> usize
+    ensures { λ r. ⌜ r ≡ startOf block ⌝ }
+{
+    1024 * less(block as usize, 1)
+}
+
 pub fn block_length(areas: Areas, block: u8) -> usize
     ensures { λ r. ⌜ r ≡ lengthOf areas block ⌝ }
 {
     let number = block as usize;
     let end = least(1024 * number, turn_octets(areas));
-    less(end, 1024 * less(number, 1))
+    less(end, block_start(block))
 }

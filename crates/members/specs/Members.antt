@@ -1,6 +1,6 @@
 -- The station list (paper 01, "The token view and the watch"): who is in it, next, misses and striking.
 use Prim.Native.Nat.{ℕ, suc, _+_}
-use mathlib.Core.Bool.{Bool, false, cond}
+use mathlib.Core.Bool.{Bool, true, false, cond}
 use mathlib.Core.List.{List, [], _∷_}
 use lib.Dec.{ltb, leb}
 use lib.ListN.{getD, set, replicate}
@@ -37,6 +37,11 @@ numbersFrom number (entry ∷ rest) = cond (entry .listed) (number ∷ numbersFr
 
 abbrev pub numbersOf : Members → List ℕ
 numbersOf members = numbersFrom 0 (members .entries)
+
+-- "If nobody else is listed"
+abbrev pub isEmpty : List ℕ → Bool
+isEmpty [] = true
+isEmpty (number ∷ rest) = false
 
 -- "the list with ours", ascending
 abbrev pub withOurs : ℕ → List ℕ → List ℕ

@@ -1,2 +1,3 @@
--- The definitions of this crate.
+-- The definitions of this crate, and what is proved of them.
 pub mod Panel
+pub mod Texts

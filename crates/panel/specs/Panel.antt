@@ -1,13 +1,15 @@
 -- Paper 01, "The panel": "Ticks from one taking of the token to our next, shown in tenths: 63 shows `6.3`, 5 shows `0.5`." "Taking" is the
 -- paper's own term for a step that gives us the token.
-use Prim.Native.Nat.{ℕ, _+_, _/_, _%_, min}
+use Prim.Native.Nat.{ℕ, _+_, _-_, _/_, _%_, min}
 use mathlib.Core.Bool.{cond}
 use mathlib.Core.List.{List, [], _∷_, _++_}
 use lib.Dec.{ltb}
+use lib.ListN.{length, replicate}
 use Rattle.text.specs.Decimal.{decimalOf}
 use Rattle.panel.specs.declared.Figure.{Figure}
 use Rattle.panel.specs.declared.Figure.the-variants.{Nothing, Over, Gap}
 use Rattle.panel.specs.declared.Panel.{Panel}
+use Rattle.panel.specs.declared.Text.{Text}
 
 -- no taking yet
 abbrev pub blank : Panel
@@ -33,3 +35,7 @@ abbrev pub textOf : Figure → List ℕ
 textOf Nothing = 0x2d ∷ 0x2d ∷ []
 textOf Over = 0x4f ∷ 0x56 ∷ 0x45 ∷ 0x52 ∷ []
 textOf (Gap ticks) = decimalOf (ticks / 10) ++ (0x2e ∷ decimalOf (ticks % 10))
+
+-- the text as it is handed on: in front of six octets, zeros behind it, and its length
+abbrev pub shown : Figure → Text
+shown figure = record { octets = textOf figure ++ replicate (6 - length (textOf figure)) 0; length = length (textOf figure) }

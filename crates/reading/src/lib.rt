@@ -55,7 +55,7 @@ fn fields_of(code: Code, s: &[u8]) -> Fields
     }
 }
 
-fn is_station(number: u8) -> bool
+pub fn is_station(number: u8) -> bool
     ensures { λ r. ⌜ r ≡ isStation number ⌝ }
 {
     (1 <= number) & (number <= 254)

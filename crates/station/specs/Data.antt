@@ -62,11 +62,15 @@ storing listed frame assembly memory =
     (record { gathering = record { source = frame .source; blocks = frame .block }; assembly = assembly; memory = memory; outcome = Kept })
 
 -- "Data are dropped with what was gathered, token still read, if the frame's areas differ from the listed ones."
-abbrev pub gathered : Station → Fields → List ℕ → List ℕ → List ℕ → Gathered
-gathered station frame octets assembly memory =
-    cond (sameAreas (frame .areas) (entryOf (station .members) (frame .source) .areas) && isNext (station .gathering) frame)
-    (storing (entryOf (station .members) (frame .source) .areas) frame (pasted assembly (startOf (frame .block)) octets) memory)
+abbrev pub gatheredFrom : Gathering → Areas → Fields → List ℕ → List ℕ → List ℕ → Gathered
+gatheredFrom gathering listed frame octets assembly memory =
+    cond (sameAreas (frame .areas) listed && isNext gathering frame)
+    (storing listed frame (pasted assembly (startOf (frame .block)) octets) memory)
     (dropped assembly memory)
+
+-- the listed ones are those that the source has in our list
+abbrev pub gathered : Station → Fields → List ℕ → List ℕ → List ℕ → Gathered
+gathered station frame = gatheredFrom (station .gathering) (entryOf (station .members) (frame .source) .areas) frame
 
 -- what was gathered from a station that is listed again or struck is dropped
 abbrev pub without : ℕ → Gathering → Gathering

@@ -1,0 +1,19 @@
+-- `asking::fields::is_last` meets its contract.
+use borrow.Author.Needs.{needs}
+use Rattle.asking.proofs.fields.is_last.Statement.{statement}
+use Rattle.asking.proofs.fields.is_last.Tie as tie
+
+blocks-requires : tie.Need-blocks-requires
+blocks-requires c κs = search needs
+
+cast-result : tie.Need-cast-result
+cast-result c = search needs
+
+add-result : tie.Need-add-result
+add-result c = search needs
+
+returns : tie.Need-returns
+returns c = rw (c .before .blocks2 .ensures)
+
+pub is-last-spec : {M : Type 1} → statement M
+is-last-spec = tie.close (tie.spec blocks-requires cast-result add-result returns)

@@ -1,0 +1,13 @@
+-- `asking::fields::trigger_fields` meets its contract.
+use borrow.Author.Needs.{needs}
+use Rattle.asking.proofs.fields.trigger_fields.Statement.{statement}
+use Rattle.asking.proofs.fields.trigger_fields.Tie as tie
+
+no-areas-requires : tie.Need-no-areas-requires
+no-areas-requires c κs = search needs
+
+returns : tie.Need-returns
+returns c = rw (c .no-areas .ensures)
+
+pub trigger-fields-spec : {M : Type 1} → statement M
+trigger-fields-spec = tie.close (tie.spec no-areas-requires returns)

@@ -1,0 +1,69 @@
+-- `asking::write` meets its contract.
+use mathlib.Core.Path.{_≡_, ap, sym, _∙_}
+use mathlib.Core.List.{List}
+use Prim.Native.Nat.{ℕ, _≤_}
+use native.Mathlib.Omega.{arith}
+use lib.ListN.{length}
+use borrow.Author.Tests.{le-leb}
+use Rattle.frame.specs.declared.Fields.{Fields}
+use Rattle.frame.specs.declared.Refusal.{Refusal}
+use Rattle.reading.specs.Reading.{dataSize}
+use Rattle.station.specs.declared.Asked.{Asked}
+use Rattle.writing.specs.Writing.{wholeLength, writtenOf}
+use Rattle.writing.specs.declared.Written.the-variants.{Octets, Refused}
+use borrow.Author.Needs.{needs}
+use Rattle.asking.proofs.write.Statement.{statement}
+use Rattle.asking.proofs.write.Tie as tie
+
+-- what is there is written
+accepted : (fields : Fields) (block output : List ℕ) → dataSize fields ≤ length block → wholeLength fields ≤ length output →
+    writtenOf fields block output ≡ Octets (wholeLength fields)
+accepted fields block output enough room = simp (le-leb _ _ enough, le-leb _ _ room)
+
+same-octets : {m n : ℕ} → Octets m ≡ Octets n → m ≡ n
+same-octets e = cc
+
+not-octets : {refusal : Refusal} {n : ℕ} → Refused refusal ≡ Octets n → ⊥
+not-octets e = let z : _≡_ {A = ℕ} 0 1 = cc in omega arith
+
+write-frame-requires : tie.Need-write-frame-requires
+write-frame-requires c κs = search needs
+
+enum-known-octets : tie.Need-enum-known-octets
+enum-known-octets c = search needs
+
+enum-known-refusal : tie.Need-enum-known-refusal
+enum-known-refusal c = search needs
+
+same-length : tie.Need-same-length
+same-length c = search needs
+
+returns : tie.Need-returns
+returns c =
+    let a = c .before .before .before .before .before .before .before .before .before .args in
+    let found = accepted (a .fields) (a .block .now) (a .output .now) (c .before .before .before .before .before .before .before .before .before .pre .0) (c .before .before .before .before .before .before .before .before .before .pre .1) in
+    let w = c .before .before .before .before .before .write-frame .ensures in
+    let same : c .before .octets .given .0 .0 ≡ wholeLength (a .fields) = same-octets (sym (c .before .octets .given .1) ∙ w .0 ∙ found) in
+    (ap Asked.Octets same, w .1)
+
+same-length-2 : tie.Need-same-length-2
+same-length-2 c = search needs
+
+returns-2 : tie.Need-returns-2
+returns-2 c =
+    let a = c .before .before .before .before .before .before .before .before .before .args in
+    let found = accepted (a .fields) (a .block .now) (a .output .now) (c .before .before .before .before .before .before .before .before .before .pre .0) (c .before .before .before .before .before .before .before .before .before .pre .1) in
+    let w = c .before .before .before .before .before .write-frame .ensures in
+    absurd (not-octets (sym (c .before .refusal .given .1) ∙ w .0 ∙ found))
+
+pub write-spec : {M : Type 1} → statement M
+write-spec =
+    tie.close
+    (tie.spec
+    write-frame-requires
+    enum-known-octets
+    enum-known-refusal
+    same-length
+    returns
+    same-length-2
+    returns-2)

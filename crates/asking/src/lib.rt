@@ -1,0 +1,141 @@
+// Asking for a frame.
+mod due;
+mod fields;
+mod sent;
+mod turn;
+
+use due::is_due;
+use fields::block_fields;
+use fields::request_fields;
+use fields::trigger_fields;
+use frame::Fields;
+use frame::Refusal;
+use sent::block_sent;
+use sent::request_sent;
+use station::Asked;
+use station::Phase;
+use station::Station;
+use turn::make_turn;
+use writing::Written;
+ghost use mathlib.Core.Path.{_≡_};
+ghost use mathlib.Core.Bool.{true};
+ghost use mathlib.Core.List.{[]};
+ghost use Prim.Native.Nat.{_≤_};
+ghost use lib.ListN.{length, drop};
+ghost use Rattle.area.specs.Areas.{memoryOctets};
+ghost use Rattle.block.specs.Blocks.{startOf};
+ghost use Rattle.reading.specs.Reading.{dataSize};
+ghost use Rattle.station.specs.Asking.{isPlaced, dueIn, nextBlock, dueFields, turnAfter, blockSent, sentIn, lentRight, askOf};
+ghost use Rattle.station.specs.declared.Phase.the-variants.{Participating};
+ghost use Rattle.writing.specs.Writing.{wholeLength, outputOf};
+
+// A call: the state after it, and the answer.
+pub struct Asking {
+    pub station: Station,
+    pub answer: Asked,
+}
+
+fn refused(station: Station, refusal: Refusal) -> Asking
+    ensures { λ r. ⌜ r .station ≡ station ⌝ }
+    ensures { λ r. ⌜ r .answer ≡ Asked.Refused refusal ⌝ }
+{
+    let answer = Asked::Refused(refusal);
+    Asking { station, answer }
+}
+
+fn is_lent_right(memory: &[u8], turn: &[u8], output: &[u8]) -> bool
+    ensures { λ r. ⌜ r ≡ lentRight (now (memory .entry)) (now (turn .entry)) (now (output .entry)) ⌝ }
+{
+    (memory.len() == 17408) & (turn.len() == 17408) & (1088 <= output.len())
+}
+
+// Writes a frame that has its data in the block and its room in the output, so that writing does not refuse it.
+fn write(fields: Fields, block: &[u8], output: &mut [u8]) -> Asked
+    requires { ⌜ dataSize fields ≤ length (now block) ⌝ }
+    requires { ⌜ wholeLength fields ≤ length (now output) ⌝ }
+    ensures { λ r. ⌜ r ≡ Asked.Octets (wholeLength fields) ⌝ }
+    ensures { λ _. ⌜ now (output .exit) ≡ outputOf fields (now (block .entry)) (now (output .entry)) ⌝ }
+{
+    match writing::write_frame(fields, block, output) {
+        Written::Octets(octets) => Asked::Octets(octets),
+        Written::Refused(refusal) => Asked::Refused(refusal),
+    }
+}
+
+// Writes a frame without data. The station is the one after it.
+fn send_bare(station: Station, fields: Fields, output: &mut [u8]) -> Asking
+    requires { ⌜ dataSize fields ≡ 0 ⌝ }
+    requires { ⌜ 1088 ≤ length (now output) ⌝ }
+    ensures { λ r. ⌜ r .station ≡ station ⌝ }
+    ensures { λ r. ⌜ r .answer ≡ Asked.Octets (wholeLength fields) ⌝ }
+    ensures { λ _. ⌜ now (output .exit) ≡ outputOf fields [] (now (output .entry)) ⌝ }
+{
+    let none = [0u8; 1];
+    let answer = write(fields, &none[0..0], output);
+    Asking { station, answer }
+}
+
+// The next block of our turn.
+fn send_block(station: Station, memory: &[u8], turn: &mut [u8], output: &mut [u8]) -> Asking
+    requires { ⌜ isPlaced station ≡ true ⌝ }
+    requires { ⌜ length (now memory) ≡ memoryOctets ⌝ }
+    requires { ⌜ length (now turn) ≡ memoryOctets ⌝ }
+    requires { ⌜ 1088 ≤ length (now output) ⌝ }
+    ensures { λ r. ⌜ r .station ≡ blockSent station ⌝ }
+    ensures { λ r. ⌜ r .answer ≡ Asked.Octets (wholeLength (dueFields Participating station)) ⌝ }
+    ensures { λ _. ⌜ now (turn .exit) ≡ turnAfter Participating station (now (memory .entry)) (now (turn .entry)) ⌝ }
+    ensures { λ _. ⌜ now (output .exit) ≡ outputOf (dueFields Participating station) (drop (startOf (nextBlock station)) (turnAfter Participating station (now (memory .entry)) (now (turn .entry)))) (now (output .entry)) ⌝ }
+{
+    let number = station.own.number;
+    let members = station.members;
+    let next = members::next_after(number, members, number);
+    make_turn(station, memory, turn);
+    let start = 1024 * station.block as usize;
+    let answer = write(block_fields(station, next), &turn[start..], output);
+    let station = block_sent(station, next);
+    Asking { station, answer }
+}
+
+// The frame that is due. A station that is off has none.
+fn send(station: Station, memory: &[u8], turn: &mut [u8], output: &mut [u8]) -> Asking
+    requires { ⌜ dueIn (station .phase) station ≡ true ⌝ }
+    requires { ⌜ lentRight (now memory) (now turn) (now output) ≡ true ⌝ }
+    ensures { λ r. ⌜ r .station ≡ sentIn (station .phase) station ⌝ }
+    ensures { λ r. ⌜ r .answer ≡ Asked.Octets (wholeLength (dueFields (station .phase) station)) ⌝ }
+    ensures { λ _. ⌜ now (turn .exit) ≡ turnAfter (station .phase) station (now (memory .entry)) (now (turn .entry)) ⌝ }
+    ensures { λ _. ⌜ now (output .exit) ≡ outputOf (dueFields (station .phase) station) (drop (startOf (nextBlock station)) (turnAfter (station .phase) station (now (memory .entry)) (now (turn .entry)))) (now (output .entry)) ⌝ }
+{
+    let phase = station.phase;
+    let own = station.own;
+    let members = station.members;
+    match phase {
+        Phase::Off => refused(station, Refusal::NotDue),
+        Phase::Listening => send_bare(
+            states::fresh(Phase::Startup, own),
+            trigger_fields(own.number),
+            output,
+        ),
+        Phase::Startup => send_bare(request_sent(station), request_fields(own), output),
+        Phase::Joining => send_bare(
+            states::begin(own, members, station.view),
+            request_fields(own),
+            output,
+        ),
+        Phase::Participating => send_block(station, memory, turn, output),
+    }
+}
+
+pub fn ask(station: Station, memory: &[u8], turn: &mut [u8], output: &mut [u8]) -> Asking
+    ensures { λ r. ⌜ r .station ≡ askOf station (now (memory .entry)) (now (turn .entry)) (now (output .entry)) .station ⌝ }
+    ensures { λ r. ⌜ r .answer ≡ askOf station (now (memory .entry)) (now (turn .entry)) (now (output .entry)) .answer ⌝ }
+    ensures { λ _. ⌜ now (turn .exit) ≡ askOf station (now (memory .entry)) (now (turn .entry)) (now (output .entry)) .turn ⌝ }
+    ensures { λ _. ⌜ now (output .exit) ≡ askOf station (now (memory .entry)) (now (turn .entry)) (now (output .entry)) .output ⌝ }
+{
+    if !is_lent_right(memory, turn, output) {
+        return refused(station, Refusal::Buffer);
+    }
+    if !is_due(station) {
+        return refused(station, Refusal::NotDue);
+    }
+    send(station, memory, turn, output)
+}

@@ -1,0 +1,54 @@
+// The copy that our blocks are sent from.
+use area::Area;
+use area::Areas;
+use area::Part;
+use station::Station;
+ghost use mathlib.Core.Path.{_≡_};
+ghost use mathlib.Core.Bool.{true};
+ghost use Prim.Native.Nat.{_+_, _*_, _≤_};
+ghost use lib.ListN.{length};
+ghost use Rattle.area.specs.Areas.{inArea, inRange, memoryOctets, spanOf};
+ghost use Rattle.copying.specs.Pasted.{pasted};
+ghost use Rattle.station.specs.Asking.{isPlaced, turnAfter};
+ghost use Rattle.station.specs.Data.{octetsIn, turnOf};
+ghost use Rattle.station.specs.declared.Phase.the-variants.{Participating};
+
+// Copies what we have of one area into the turn, from octet `at` on.
+fn copy_part(area: Area, part: Part, memory: &[u8], turn: &mut [u8], at: usize)
+    requires { ⌜ inArea area part ≡ true ⌝ }
+    requires { ⌜ length (now memory) ≡ memoryOctets ⌝ }
+    requires { ⌜ at + 2 * part .size ≤ length (now turn) ⌝ }
+    ensures { λ _. ⌜ now (turn .exit) ≡ pasted (now (turn .entry)) at (octetsIn (spanOf area part) (now (memory .entry))) ⌝ }
+{
+    let span = area::span_of(area, part);
+    let start = span.start;
+    let end = start + span.length;
+    copying::copy_into(&memory[start..end], turn, at);
+}
+
+// "A turn's data are the station's area 1 then its area 2": each copied from where the table of areas has it (paper 01, list of forms).
+fn copy_turn(areas: Areas, memory: &[u8], turn: &mut [u8])
+    requires { ⌜ inRange areas ≡ true ⌝ }
+    requires { ⌜ length (now memory) ≡ memoryOctets ⌝ }
+    requires { ⌜ length (now turn) ≡ memoryOctets ⌝ }
+    ensures { λ _. ⌜ now (turn .exit) ≡ pasted (now (turn .entry)) 0 (turnOf areas (now (memory .entry))) ⌝ }
+{
+    let one = areas.one;
+    let two = areas.two;
+    copy_part(Area::One, one, memory, turn, 0);
+    copy_part(Area::Two, two, memory, turn, 2 * one.size as usize);
+}
+
+// The copy is made at the first block of our turn.
+pub fn make_turn(station: Station, memory: &[u8], turn: &mut [u8])
+    requires { ⌜ isPlaced station ≡ true ⌝ }
+    requires { ⌜ length (now memory) ≡ memoryOctets ⌝ }
+    requires { ⌜ length (now turn) ≡ memoryOctets ⌝ }
+    ensures { λ _. ⌜ now (turn .exit) ≡ turnAfter Participating station (now (memory .entry)) (now (turn .entry)) ⌝ }
+{
+    let own = station.own;
+    let areas = own.areas;
+    if station.block == 0 {
+        copy_turn(areas, memory, turn);
+    }
+}

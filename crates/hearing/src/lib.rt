@@ -1,0 +1,198 @@
+// Hearing a frame.
+mod token;
+
+use frame::Fields;
+use frame::Refusal;
+use reading::Read;
+use station::Heard;
+use station::Station;
+use token::outcome_of;
+use token::view_heard;
+ghost use mathlib.Core.Path.{_≡_};
+ghost use mathlib.Core.Bool.{true};
+ghost use lib.ListN.{length};
+ghost use Rattle.frame.specs.Codes.{isCyclic};
+ghost use Rattle.reading.specs.Reading.{readBodyOf, dataOf};
+ghost use Rattle.reading.specs.declared.Read.the-variants as reads;
+ghost use Rattle.station.specs.Data.{gathered};
+ghost use Rattle.station.specs.Hearing.{knows as knowsOf, isStranger, isTaken, afterTaken, lentRight, participantHeard, accepted, bodyHeard, headerHeard, hearOf};
+
+// A call of hear: the state after it, and the answer.
+pub struct Hearing {
+    pub station: Station,
+    pub answer: Heard,
+}
+
+fn refused(station: Station, refusal: Refusal) -> Hearing
+    ensures { λ r. ⌜ r .station ≡ station ⌝ }
+    ensures { λ r. ⌜ r .answer ≡ Heard.Refused refusal ⌝ }
+{
+    let answer = Heard::Refused(refusal);
+    Hearing { station, answer }
+}
+
+// Number 6: the source is our own number, which an off station does not ask.
+fn is_taken(station: Station, frame: Fields) -> bool
+    ensures { λ r. ⌜ r ≡ isTaken station frame ⌝ }
+{
+    let phase = station.phase;
+    let own = station.own;
+    !states::is_off(phase) & (frame.source == own.number)
+}
+
+// Number 6 turns a station off that does not participate yet.
+fn after_taken(station: Station) -> Station
+    ensures { λ r. ⌜ r ≡ afterTaken station ⌝ }
+{
+    let phase = station.phase;
+    if states::is_participating(phase) {
+        station
+    } else {
+        states::stopped(station)
+    }
+}
+
+fn knows(station: Station, number: u8) -> bool
+    ensures { λ r. ⌜ r ≡ knowsOf station number ⌝ }
+{
+    let own = station.own;
+    let members = station.members;
+    (number == own.number) | members::is_listed(members, number)
+}
+
+// Number 9.
+fn is_stranger(station: Station, frame: Fields) -> bool
+    ensures { λ r. ⌜ r ≡ isStranger station frame ⌝ }
+{
+    let phase = station.phase;
+    let code = frame.code;
+    let asked = states::is_participating(phase) & frame::is_cyclic(code);
+    let known = knows(station, frame.source)
+        & (!frame::is_token(code) | knows(station, frame.destination));
+    asked & !known
+}
+
+// A cyclic frame that a participant accepts. Its data are a part of the octets heard, and are not copied before they are gathered.
+fn participant_hears(
+    station: Station,
+    frame: Fields,
+    octets: &[u8],
+    memory: &mut [u8],
+    assembly: &mut [u8],
+) -> Hearing
+    requires { ⌜ lentRight (now memory) (now assembly) ≡ true ⌝ }
+    requires { ⌜ readBodyOf (length (now octets)) frame ≡ reads.Frame frame ⌝ }
+    requires { ⌜ isCyclic (frame .code) ≡ true ⌝ }
+    ensures { λ r. ⌜ r .station ≡ participantHeard station frame (gathered station frame (dataOf (now (octets .entry)) frame) (now (assembly .entry)) (now (memory .entry))) .station ⌝ }
+    ensures { λ r. ⌜ r .answer ≡ participantHeard station frame (gathered station frame (dataOf (now (octets .entry)) frame) (now (assembly .entry)) (now (memory .entry))) .answer ⌝ }
+    ensures { λ _. ⌜ now (memory .exit) ≡ gathered station frame (dataOf (now (octets .entry)) frame) (now (assembly .entry)) (now (memory .entry)) .memory ⌝ }
+    ensures { λ _. ⌜ now (assembly .exit) ≡ gathered station frame (dataOf (now (octets .entry)) frame) (now (assembly .entry)) (now (memory .entry)) .assembly ⌝ }
+{
+    let members = station.members;
+    let before = station.gathering;
+    let panel = station.panel;
+    let entry = members::entry_of(members, frame.source);
+    let listed = entry.areas;
+    let part = reading::data_of(octets, frame);
+    let stored = gathering::gather(before, listed, frame, part, assembly, memory);
+    let after = stored.gathering;
+    let outcome = stored.outcome;
+    let answer = Heard::Cyclic(outcome_of(station, frame, outcome));
+    let view = view_heard(station.view, frame);
+    let station = states::restart(
+        station,
+        members::clear(members, frame.source),
+        view,
+        after,
+        panel,
+    );
+    Hearing { station, answer }
+}
+
+// A frame that no refusal met.
+fn accept(
+    station: Station,
+    frame: Fields,
+    octets: &[u8],
+    memory: &mut [u8],
+    assembly: &mut [u8],
+) -> Hearing
+    requires { ⌜ lentRight (now memory) (now assembly) ≡ true ⌝ }
+    requires { ⌜ readBodyOf (length (now octets)) frame ≡ reads.Frame frame ⌝ }
+    ensures { λ r. ⌜ r .station ≡ accepted station frame (now (octets .entry)) (now (memory .entry)) (now (assembly .entry)) .station ⌝ }
+    ensures { λ r. ⌜ r .answer ≡ accepted station frame (now (octets .entry)) (now (memory .entry)) (now (assembly .entry)) .answer ⌝ }
+    ensures { λ _. ⌜ now (memory .exit) ≡ accepted station frame (now (octets .entry)) (now (memory .entry)) (now (assembly .entry)) .memory ⌝ }
+    ensures { λ _. ⌜ now (assembly .exit) ≡ accepted station frame (now (octets .entry)) (now (memory .entry)) (now (assembly .entry)) .assembly ⌝ }
+{
+    let phase = station.phase;
+    let code = frame.code;
+    if states::is_participating(phase) & frame::is_cyclic(code) {
+        return participant_hears(station, frame, octets, memory, assembly);
+    }
+    let answer = entering::answer(phase, code);
+    let after = entering::enter(station, frame);
+    Hearing {
+        station: after,
+        answer,
+    }
+}
+
+// Number 9, then the frame is heard.
+fn hear_body(
+    station: Station,
+    frame: Fields,
+    octets: &[u8],
+    memory: &mut [u8],
+    assembly: &mut [u8],
+) -> Hearing
+    requires { ⌜ lentRight (now memory) (now assembly) ≡ true ⌝ }
+    requires { ⌜ readBodyOf (length (now octets)) frame ≡ reads.Frame frame ⌝ }
+    ensures { λ r. ⌜ r .station ≡ bodyHeard station (now (octets .entry)) (now (memory .entry)) (now (assembly .entry)) (reads.Frame frame) .station ⌝ }
+    ensures { λ r. ⌜ r .answer ≡ bodyHeard station (now (octets .entry)) (now (memory .entry)) (now (assembly .entry)) (reads.Frame frame) .answer ⌝ }
+    ensures { λ _. ⌜ now (memory .exit) ≡ bodyHeard station (now (octets .entry)) (now (memory .entry)) (now (assembly .entry)) (reads.Frame frame) .memory ⌝ }
+    ensures { λ _. ⌜ now (assembly .exit) ≡ bodyHeard station (now (octets .entry)) (now (memory .entry)) (now (assembly .entry)) (reads.Frame frame) .assembly ⌝ }
+{
+    if is_stranger(station, frame) {
+        return refused(station, Refusal::Stranger);
+    }
+    accept(station, frame, octets, memory, assembly)
+}
+
+// Number 6, then 7 and 8.
+fn hear_header(
+    station: Station,
+    frame: Fields,
+    octets: &[u8],
+    memory: &mut [u8],
+    assembly: &mut [u8],
+) -> Hearing
+    requires { ⌜ lentRight (now memory) (now assembly) ≡ true ⌝ }
+    ensures { λ r. ⌜ r .station ≡ headerHeard station (now (octets .entry)) (now (memory .entry)) (now (assembly .entry)) (reads.Frame frame) .station ⌝ }
+    ensures { λ r. ⌜ r .answer ≡ headerHeard station (now (octets .entry)) (now (memory .entry)) (now (assembly .entry)) (reads.Frame frame) .answer ⌝ }
+    ensures { λ _. ⌜ now (memory .exit) ≡ headerHeard station (now (octets .entry)) (now (memory .entry)) (now (assembly .entry)) (reads.Frame frame) .memory ⌝ }
+    ensures { λ _. ⌜ now (assembly .exit) ≡ headerHeard station (now (octets .entry)) (now (memory .entry)) (now (assembly .entry)) (reads.Frame frame) .assembly ⌝ }
+{
+    if is_taken(station, frame) {
+        return refused(after_taken(station), Refusal::Taken);
+    }
+    match reading::read_body(octets.len(), frame) {
+        Read::Frame(body) => hear_body(station, body, octets, memory, assembly),
+        Read::Refused(refusal) => refused(station, refusal),
+    }
+}
+
+// Number 11, then 1 to 5, and so on in the table's order: the first that applies.
+pub fn hear(station: Station, octets: &[u8], memory: &mut [u8], assembly: &mut [u8]) -> Hearing
+    ensures { λ r. ⌜ r .station ≡ hearOf station (now (octets .entry)) (now (memory .entry)) (now (assembly .entry)) .station ⌝ }
+    ensures { λ r. ⌜ r .answer ≡ hearOf station (now (octets .entry)) (now (memory .entry)) (now (assembly .entry)) .answer ⌝ }
+    ensures { λ _. ⌜ now (memory .exit) ≡ hearOf station (now (octets .entry)) (now (memory .entry)) (now (assembly .entry)) .memory ⌝ }
+    ensures { λ _. ⌜ now (assembly .exit) ≡ hearOf station (now (octets .entry)) (now (memory .entry)) (now (assembly .entry)) .assembly ⌝ }
+{
+    if (memory.len() != 17408) | (assembly.len() != 17408) {
+        return refused(station, Refusal::Buffer);
+    }
+    match reading::read_header(octets) {
+        Read::Frame(frame) => hear_header(station, frame, octets, memory, assembly),
+        Read::Refused(refusal) => refused(station, refusal),
+    }
+}

@@ -1,0 +1,54 @@
+// What a frame does to the token view, and what is answered of it.
+use frame::Fields;
+use station::Data;
+use station::Station;
+use station::Token;
+ghost use mathlib.Core.Path.{_≡_};
+ghost use Rattle.station.specs.Token.{viewAfter, viewHeard, outcomeOf};
+
+// "if the source is our view, the view becomes the destination. Otherwise the view becomes the smaller of view and destination."
+fn view_after(view: u8, source: u8, destination: u8) -> u8
+    ensures { λ r. ⌜ r ≡ viewAfter view source destination ⌝ }
+{
+    if source == view {
+        return destination;
+    }
+    if view < destination {
+        view
+    } else {
+        destination
+    }
+}
+
+pub(crate) fn view_heard(view: u8, frame: Fields) -> u8
+    ensures { λ r. ⌜ r ≡ viewHeard view frame ⌝ }
+{
+    let code = frame.code;
+    if frame::is_token(code) {
+        view_after(view, frame.source, frame.destination)
+    } else {
+        view
+    }
+}
+
+pub(crate) fn outcome_of(station: Station, frame: Fields, outcome: Data) -> Token
+    ensures { λ r. ⌜ r ≡ outcomeOf station frame outcome ⌝ }
+{
+    let code = frame.code;
+    let own = station.own;
+    let before = station.view;
+    let after = view_heard(before, frame);
+    if !frame::is_token(code) {
+        return Token::None(outcome);
+    }
+    if states::takes(own.number, before, after) {
+        return Token::OursNow(outcome);
+    }
+    if frame.source == before {
+        return Token::PassedOn(outcome);
+    }
+    if after != before {
+        return Token::RivalWon(outcome);
+    }
+    Token::RivalPassedOver(outcome)
+}

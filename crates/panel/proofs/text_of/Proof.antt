@@ -1,0 +1,39 @@
+-- `panel::text_of` meets its contract.
+use mathlib.Core.Path.{ap, sym, _∙_}
+use borrow.Author.Needs.{needs}
+use Rattle.panel.specs.Panel.{shown}
+use Rattle.panel.proofs.text_of.Statement.{statement}
+use Rattle.panel.proofs.text_of.Tie as tie
+
+enum-told : tie.Need-enum-told
+enum-told c = search needs
+
+enum-told-2 : tie.Need-enum-told-2
+enum-told-2 c = search needs
+
+enum-known-figure : tie.Need-enum-known-figure
+enum-known-figure c = search needs
+
+gap-text-requires : tie.Need-gap-text-requires
+gap-text-requires c κs = search needs
+
+returns : tie.Need-returns
+returns c = rw (c .enum-told .given .1)
+
+returns-2 : tie.Need-returns-2
+returns-2 c = rw (c .enum-told2 .given .1)
+
+returns-3 : tie.Need-returns-3
+returns-3 c = c .gap-text .ensures ∙ ap shown (sym (c .before .before .figure .given .1))
+
+pub text-of-spec : {M : Type 1} → statement M
+text-of-spec =
+    tie.close
+    (tie.spec
+    enum-told
+    enum-told-2
+    enum-known-figure
+    gap-text-requires
+    returns
+    returns-2
+    returns-3)

@@ -1,0 +1,29 @@
+-- Laws for the loops over octets and entries. Assumes nothing.
+use mathlib.Core.Path.{_≡_, refl, ap, sym, _∙_}
+use mathlib.Core.List.{List, [], _∷_, _++_, map, append-assoc, append-nil}
+use Prim.Native.Nat.{ℕ, suc, _+_}
+use native.Mathlib.Omega.{arith}
+use lib.ListN.{length, length-map}
+use Rattle.members.specs.declared.Entry.{Entry}
+use Rattle.replies.specs.Hex.{octetText, hexOf}
+use Rattle.replies.specs.Replies.{entryText, entriesFrom}
+
+-- one more element at the end of what a loop has written
+pub hex-more : (octets : List ℕ) (octet : ℕ) → hexOf (octets ++ (octet ∷ [])) ≡ hexOf octets ++ octetText octet
+hex-more [] octet = refl
+hex-more (first ∷ rest) octet = ap (λ (l : List ℕ). octetText first ++ l) (hex-more rest octet)
+
+pub entries-more : (number : ℕ) (entries : List Entry) (entry : Entry)
+    → entriesFrom number (entries ++ (entry ∷ [])) ≡ entriesFrom number entries ++ entryText (number + length entries) entry
+entries-more number [] entry =
+    let here : number ≡ number + 0 = omega arith in
+    append-nil (entryText number entry) ∙ ap (λ (n : ℕ). entryText n entry) here
+entries-more number (first ∷ rest) entry =
+    let there : suc number + length rest ≡ number + suc (length rest) = omega arith in
+    ap (λ (l : List ℕ). entryText number first ++ l)
+    (entries-more (suc number) rest entry ∙ ap (λ (n : ℕ). entriesFrom (suc number) rest ++ entryText n entry) there)
+    ∙ sym (append-assoc (entryText number first) (entriesFrom (suc number) rest) (entryText (number + suc (length rest)) entry))
+
+-- the length of an array of structs, which the logic tells of the list of their fields
+pub unmapped : {A B : Type 0} (f : A → B) (l : List A) (n : ℕ) → length (map f l) ≡ n → length l ≡ n
+unmapped f l n e = sym (length-map l f) ∙ e

@@ -1,0 +1,35 @@
+// Parts of a line. Each is written from octet `at` of the output on, and the answer is the octet behind it.
+ghost use mathlib.Core.Path.{_≡_};
+ghost use mathlib.Core.List.{[], _∷_};
+ghost use Prim.Native.Nat.{_+_, _≤_};
+ghost use lib.ListN.{length};
+ghost use Rattle.copying.specs.Pasted.{pasted};
+ghost use Rattle.text.specs.Decimal.{decimalOf};
+
+pub fn put_mark(mark: u8, output: &mut [u8], at: usize) -> usize
+    requires { ⌜ at + 1 ≤ length (now output) ⌝ }
+    ensures { λ r. ⌜ r ≡ at + length (mark ∷ []) ⌝ }
+    ensures { λ _. ⌜ now (output .exit) ≡ pasted (now (output .entry)) at (mark ∷ []) ⌝ }
+{
+    output[at] = mark;
+    at + 1
+}
+
+pub fn put_word(word: &[u8], output: &mut [u8], at: usize) -> usize
+    requires { ⌜ at + length (now word) ≤ length (now output) ⌝ }
+    ensures { λ r. ⌜ r ≡ at + length (now (word .entry)) ⌝ }
+    ensures { λ _. ⌜ now (output .exit) ≡ pasted (now (output .entry)) at (now (word .entry)) ⌝ }
+{
+    copying::copy_into(word, output, at);
+    at + word.len()
+}
+
+// A number in decimal, with a mark in front of it.
+pub fn put_number(mark: u8, number: u32, output: &mut [u8], at: usize) -> usize
+    requires { ⌜ at + 11 ≤ length (now output) ⌝ }
+    ensures { λ r. ⌜ r ≡ at + length (mark ∷ decimalOf number) ⌝ }
+    ensures { λ _. ⌜ now (output .exit) ≡ pasted (now (output .entry)) at (mark ∷ decimalOf number) ⌝ }
+{
+    let next = put_mark(mark, output, at);
+    text::put_decimal(number, output, next)
+}

@@ -1,0 +1,18 @@
+-- `states::taken_if` meets its contract.
+use mathlib.Core.Path.{_∙_}
+use lib.ListN.{take}
+use borrow.Author.Needs.{needs}
+use Rattle.states.proofs.taken_if.Statement.{statement}
+use Rattle.states.proofs.taken_if.Tie as tie
+
+take-requires : tie.Need-take-requires
+take-requires c κs = search needs
+
+returns : tie.Need-returns
+returns c = c .take .ensures ∙ rw (c .before .if1 .taken)
+
+returns-2 : tie.Need-returns-2
+returns-2 c = search needs
+
+pub taken-if-spec : {M : Type 1} → statement M
+taken-if-spec = tie.close (tie.spec take-requires returns returns-2)

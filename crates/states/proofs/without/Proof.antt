@@ -1,0 +1,18 @@
+-- `states::without` meets its contract.
+use mathlib.Core.Path.{_∙_}
+use borrow.Author.Tests.{eq-eqb, ne-eqb}
+use borrow.Author.Needs.{needs}
+use Rattle.states.proofs.without.Statement.{statement}
+use Rattle.states.proofs.without.Tie as tie
+
+nothing-requires : tie.Need-nothing-requires
+nothing-requires c κs = search needs
+
+returns : tie.Need-returns
+returns c = c .nothing .ensures ∙ rw (eq-eqb _ _ (c .before .if1 .taken))
+
+returns-2 : tie.Need-returns-2
+returns-2 c = rw (ne-eqb _ _ (c .if1 .left))
+
+pub without-spec : {M : Type 1} → statement M
+without-spec = tie.close (tie.spec nothing-requires returns returns-2)

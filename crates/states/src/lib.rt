@@ -1,0 +1,227 @@
+// The state of a station at the beginning of each phase, the waits, and what the panel shows.
+mod waits;
+
+use area::Areas;
+use area::Part;
+use members::Members;
+use panel::Figure;
+use panel::Panel;
+use station::Gathering;
+use station::Phase;
+use station::Settings;
+use station::Station;
+use units::Milliseconds;
+use units::Ticks;
+pub use waits::acceptance_time;
+pub use waits::detection_wait;
+pub use waits::later;
+pub use waits::listening_time;
+pub use waits::number_wait;
+ghost use mathlib.Core.Path.{_≡_};
+ghost use mathlib.Core.Bool.{cond};
+ghost use lib.Dec.{eqb};
+ghost use Rattle.panel.specs.Panel.{taken};
+ghost use Rattle.station.specs.Data.{without as withoutOf};
+ghost use Rattle.station.specs.Showing.{figureShown};
+ghost use Rattle.station.specs.State.{isOff, isParticipating, nothing, fresh as freshOf, stopped as stoppedOf, never as neverOf, holds as holdsOf, begun};
+ghost use Rattle.station.specs.Token.{takes as takesOf, restarted};
+ghost use Rattle.station.specs.declared.Phase.the-variants.{Off};
+ghost use Rattle.writing.specs.Writing.{noAreas, noWatch};
+
+pub fn is_off(phase: Phase) -> bool
+    ensures { λ r. ⌜ r ≡ isOff phase ⌝ }
+{
+    match phase {
+        Phase::Off => true,
+        Phase::Listening => false,
+        Phase::Startup => false,
+        Phase::Joining => false,
+        Phase::Participating => false,
+    }
+}
+
+pub fn is_participating(phase: Phase) -> bool
+    ensures { λ r. ⌜ r ≡ isParticipating phase ⌝ }
+{
+    match phase {
+        Phase::Off => false,
+        Phase::Listening => false,
+        Phase::Startup => false,
+        Phase::Joining => false,
+        Phase::Participating => true,
+    }
+}
+
+pub fn no_areas() -> Areas
+    ensures { λ r. ⌜ r ≡ noAreas ⌝ }
+{
+    let none = Part {
+        address: 0,
+        size: 0,
+    };
+    Areas {
+        one: none,
+        two: none,
+    }
+}
+
+// Nothing gathered.
+pub fn nothing() -> Gathering
+    ensures { λ r. ⌜ r ≡ nothing ⌝ }
+{
+    Gathering {
+        source: 0,
+        blocks: 0,
+    }
+}
+
+// What was gathered, but not from this source.
+pub fn without(source: u8, gathering: Gathering) -> Gathering
+    ensures { λ r. ⌜ r ≡ withoutOf source gathering ⌝ }
+{
+    if source == gathering.source {
+        nothing()
+    } else {
+        gathering
+    }
+}
+
+// A phase that begins with an empty list.
+pub fn fresh(phase: Phase, own: Settings) -> Station
+    ensures { λ r. ⌜ r ≡ freshOf phase own ⌝ }
+{
+    let members = members::no_members();
+    let gathering = nothing();
+    let panel = panel::blank();
+    Station {
+        phase,
+        own,
+        members,
+        elapsed: Ticks(0),
+        waited: Ticks(0),
+        rounds: 0,
+        sent: false,
+        view: 0,
+        block: 0,
+        gathering,
+        panel,
+    }
+}
+
+// Off, with nothing left but a number.
+fn off(number: u8) -> Station
+    ensures { λ r. ⌜ r ≡ freshOf Off (record { number = number; areas = noAreas; watch = noWatch }) ⌝ }
+{
+    let areas = no_areas();
+    let own = Settings {
+        number,
+        areas,
+        watch: Milliseconds(0),
+    };
+    fresh(Phase::Off, own)
+}
+
+pub fn stopped(station: Station) -> Station
+    ensures { λ r. ⌜ r ≡ stoppedOf station ⌝ }
+{
+    let own = station.own;
+    off(own.number)
+}
+
+pub fn never() -> Station
+    ensures { λ r. ⌜ r ≡ neverOf ⌝ }
+{
+    off(0)
+}
+
+pub fn holds(station: Station) -> bool
+    ensures { λ r. ⌜ r ≡ holdsOf station ⌝ }
+{
+    let own = station.own;
+    station.view == own.number
+}
+
+// The panel, where a test says whether there is a taking.
+pub fn taken_if(taking: bool, panel: Panel) -> Panel
+    ensures { λ r. ⌜ r ≡ cond taking (taken panel) panel ⌝ }
+{
+    if taking { panel::take(panel) } else { panel }
+}
+
+// Whether a step that moves our view from one number to another is a taking.
+pub fn takes(own: u8, before: u8, after: u8) -> bool
+    ensures { λ r. ⌜ r ≡ takesOf own before after ⌝ }
+{
+    (after == own) & (before != own)
+}
+
+// A station that stops holding forgets how far its turn had come.
+fn place_kept(view: u8, own: u8, block: u8) -> u8
+    ensures { λ r. ⌜ r ≡ cond (eqb view own) block 0 ⌝ }
+{
+    if view == own { block } else { 0 }
+}
+
+// A participant whose watch restarts, with another list, view and gathering.
+pub fn restart(
+    station: Station,
+    members: Members,
+    view: u8,
+    gathering: Gathering,
+    panel: Panel,
+) -> Station
+    ensures { λ r. ⌜ r ≡ restarted station members view gathering panel ⌝ }
+{
+    let own = station.own;
+    let waited = station.waited;
+    let number = own.number;
+    let block = place_kept(view, number, station.block);
+    let panel = taken_if(takes(number, station.view, view), panel);
+    Station {
+        phase: Phase::Participating,
+        own,
+        members,
+        elapsed: Ticks(0),
+        waited,
+        rounds: station.rounds,
+        sent: station.sent,
+        view,
+        block,
+        gathering,
+        panel,
+    }
+}
+
+// We begin to participate.
+pub fn begin(own: Settings, members: Members, view: u8) -> Station
+    ensures { λ r. ⌜ r ≡ begun own members view ⌝ }
+{
+    let gathering = nothing();
+    let panel = taken_if(view == own.number, panel::blank());
+    Station {
+        phase: Phase::Participating,
+        own,
+        members,
+        elapsed: Ticks(0),
+        waited: Ticks(0),
+        rounds: 0,
+        sent: false,
+        view,
+        block: 0,
+        gathering,
+        panel,
+    }
+}
+
+// What the panel shows.
+pub fn show(station: Station) -> Figure
+    ensures { λ r. ⌜ r ≡ figureShown station ⌝ }
+{
+    let phase = station.phase;
+    let panel = station.panel;
+    if is_participating(phase) {
+        panel::figure_of(panel)
+    } else {
+        Figure::Nothing
+    }
+}

@@ -1,0 +1,21 @@
+-- `ticking::waited_then` meets its contract.
+use mathlib.Core.Path.{_∙_}
+use borrow.Author.Tests.{eq-eqb, ne-eqb}
+use borrow.Author.Needs.{needs}
+use Rattle.ticking.proofs.waited_then.Statement.{statement}
+use Rattle.ticking.proofs.waited_then.Tie as tie
+
+number-wait-requires : tie.Need-number-wait-requires
+number-wait-requires c κs = search needs
+
+later-requires : tie.Need-later-requires
+later-requires c κs = search needs
+
+returns : tie.Need-returns
+returns c = c .later .ensures ∙ rw (c .before .number-wait .ensures, eq-eqb _ _ (c .before .before .if1 .taken))
+
+returns-2 : tie.Need-returns-2
+returns-2 c = rw (ne-eqb _ _ (c .if1 .left))
+
+pub waited-then-spec : {M : Type 1} → statement M
+waited-then-spec = tie.close (tie.spec number-wait-requires later-requires returns returns-2)

@@ -1,0 +1,23 @@
+-- `ticking::watch_ends` meets its contract.
+use borrow.Author.Needs.{needs}
+use Rattle.ticking.proofs.watch_ends.Statement.{statement}
+use Rattle.ticking.proofs.watch_ends.Tie as tie
+
+in-ticks-requires : tie.Need-in-ticks-requires
+in-ticks-requires c κs = search needs
+
+cast-result : tie.Need-cast-result
+cast-result c = search needs
+
+cast-result-2 : tie.Need-cast-result-2
+cast-result-2 c = search needs
+
+add-result : tie.Need-add-result
+add-result c = search needs
+
+returns : tie.Need-returns
+returns c = rw (c .before .before .in-ticks .ensures)
+
+pub watch-ends-spec : {M : Type 1} → statement M
+watch-ends-spec =
+    tie.close (tie.spec in-ticks-requires cast-result cast-result-2 add-result returns)

@@ -1,0 +1,208 @@
+// A tick.
+use members::Members;
+use panel::Panel;
+use station::Gathering;
+use station::Phase;
+use station::Settings;
+use station::Station;
+use station::Ticked;
+use units::Ticks;
+ghost use mathlib.Core.Path.{_≡_};
+ghost use mathlib.Core.Bool.{cond, _&&_};
+ghost use lib.Dec.{eqb};
+ghost use Rattle.members.specs.Members.{numbersOf, isListed, strikes};
+ghost use Rattle.station.specs.Data.{without as withoutOf};
+ghost use Rattle.station.specs.Starting.{startedUp};
+ghost use Rattle.station.specs.Ticking.{later, counted, fallsDue, startupTick, joiningTick, watchEnded, watchEnds, participantTick, tickedBy, tickAnswer, tickOf};
+ghost use Rattle.station.specs.Waits.{numberWait};
+ghost use Rattle.station.specs.declared.Phase.the-variants as phases;
+
+// A call of tick: the state after it, and the answer.
+pub struct Ticking {
+    pub station: Station,
+    pub answer: Ticked,
+}
+
+// A station with its counts of ticks, its own settings and its panel changed.
+fn count(station: Station, own: Settings, elapsed: Ticks, waited: Ticks, panel: Panel) -> Station
+    ensures { λ r. ⌜ r ≡ counted station own elapsed waited panel ⌝ }
+{
+    Station {
+        own,
+        elapsed,
+        waited,
+        panel,
+        ..station
+    }
+}
+
+// Our settings after a tick that took a wait from one count to another.
+fn falls_due(station: Station, before: Ticks, after: Ticks) -> Settings
+    ensures { λ r. ⌜ r ≡ fallsDue station before after ⌝ }
+{
+    let own = station.own;
+    let members = station.members;
+    let wait = states::number_wait(own.number);
+    if (before.0 < wait.0) & (wait.0 <= after.0) {
+        starting::own_due(own, members)
+    } else {
+        own
+    }
+}
+
+// The acceptance time has ended.
+fn start_up(own: Settings, members: Members) -> Station
+    ensures { λ r. ⌜ r ≡ startedUp own members (numbersOf members) ⌝ }
+{
+    if members::is_empty(members) {
+        return states::fresh(Phase::Listening, own);
+    }
+    let smallest = members::smallest(own.number, members);
+    states::begin(own, members, smallest)
+}
+
+fn startup_tick(station: Station, elapsed: Ticks) -> Station
+    ensures { λ r. ⌜ r ≡ startupTick station elapsed ⌝ }
+{
+    let own = station.own;
+    let members = station.members;
+    let limit = states::acceptance_time();
+    if limit.0 <= elapsed.0 {
+        return start_up(own, members);
+    }
+    let before = station.elapsed;
+    let due = falls_due(station, before, elapsed);
+    let waited = station.waited;
+    let panel = station.panel;
+    count(station, due, elapsed, waited, panel)
+}
+
+// In joining, the wait for our number runs from the end of the third round.
+fn waited_then(station: Station) -> Ticks
+    ensures { λ r. ⌜ r ≡ cond (eqb (station .rounds) 3) (later (numberWait (station .own .number)) (station .waited)) (station .waited) ⌝ }
+{
+    let own = station.own;
+    let waited = station.waited;
+    if station.rounds == 3 {
+        states::later(states::number_wait(own.number), waited)
+    } else {
+        waited
+    }
+}
+
+fn joining_tick(station: Station, elapsed: Ticks) -> Station
+    ensures { λ r. ⌜ r ≡ joiningTick station elapsed ⌝ }
+{
+    let own = station.own;
+    let limit = states::detection_wait();
+    if limit.0 <= elapsed.0 {
+        return states::fresh(Phase::Listening, own);
+    }
+    let before = station.waited;
+    let after = waited_then(station);
+    let due = falls_due(station, before, after);
+    let panel = station.panel;
+    count(station, due, elapsed, after, panel)
+}
+
+// What is left of a gathering when the station in view gets a miss: a station that is struck loses what was gathered from it.
+fn left(station: Station) -> Gathering
+    ensures { λ r. ⌜ r ≡ cond (isListed (station .members) (station .view) && strikes (station .members) (station .view)) (withoutOf (station .view) (station .gathering)) (station .gathering) ⌝ }
+{
+    let members = station.members;
+    let gathering = station.gathering;
+    let view = station.view;
+    if members::is_listed(members, view) & members::strikes(members, view) {
+        states::without(view, gathering)
+    } else {
+        gathering
+    }
+}
+
+fn watch_ended(station: Station) -> Station
+    ensures { λ r. ⌜ r ≡ watchEnded station ⌝ }
+{
+    let own = station.own;
+    let members = station.members;
+    let view = station.view;
+    let panel = station.panel;
+    let next = members::next_after(own.number, members, view);
+    let gathering = left(station);
+    states::restart(
+        station,
+        members::miss(members, view),
+        next,
+        gathering,
+        panel::tick(panel),
+    )
+}
+
+fn watch_ends(station: Station) -> bool
+    ensures { λ r. ⌜ r ≡ watchEnds station ⌝ }
+{
+    let own = station.own;
+    let elapsed = station.elapsed;
+    let watch = units::in_ticks(own.watch);
+    watch.0 as u64 <= elapsed.0 as u64 + 1
+}
+
+fn participant_tick(station: Station, elapsed: Ticks) -> Station
+    ensures { λ r. ⌜ r ≡ participantTick station elapsed ⌝ }
+{
+    if watch_ends(station) {
+        return watch_ended(station);
+    }
+    let own = station.own;
+    let waited = station.waited;
+    let panel = station.panel;
+    count(station, own, elapsed, waited, panel::tick(panel))
+}
+
+fn listening_tick(station: Station) -> Station
+    ensures { λ r. ⌜ r ≡ tickedBy phases.Listening station ⌝ }
+{
+    let own = station.own;
+    let before = station.elapsed;
+    let waited = station.waited;
+    let panel = station.panel;
+    let elapsed = states::later(states::listening_time(own.number), before);
+    count(station, own, elapsed, waited, panel)
+}
+
+fn tick_on(station: Station) -> Station
+    ensures { λ r. ⌜ r ≡ tickedBy (station .phase) station ⌝ }
+{
+    let phase = station.phase;
+    let elapsed = station.elapsed;
+    match phase {
+        Phase::Off => station,
+        Phase::Listening => listening_tick(station),
+        Phase::Startup => startup_tick(station, states::later(states::acceptance_time(), elapsed)),
+        Phase::Joining => joining_tick(station, states::later(states::detection_wait(), elapsed)),
+        Phase::Participating => participant_tick(station, states::later(Ticks(2550), elapsed)),
+    }
+}
+
+fn answer_in(phase: Phase) -> Ticked
+    ensures { λ r. ⌜ r ≡ tickAnswer phase ⌝ }
+{
+    match phase {
+        Phase::Off => Ticked::Off,
+        Phase::Listening => Ticked::Done,
+        Phase::Startup => Ticked::Done,
+        Phase::Joining => Ticked::Done,
+        Phase::Participating => Ticked::Done,
+    }
+}
+
+pub fn tick(station: Station) -> Ticking
+    ensures { λ r. ⌜ r .station ≡ tickOf station .station ⌝ }
+    ensures { λ r. ⌜ r .answer ≡ tickOf station .answer ⌝ }
+{
+    let phase = station.phase;
+    let answer = answer_in(phase);
+    Ticking {
+        station: tick_on(station),
+        answer,
+    }
+}
