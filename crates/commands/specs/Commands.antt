@@ -1,6 +1,6 @@
 -- What a line means: the table of commands. Words in quotes are the table's.
 use Prim.Native.Nat.{ℕ, _+_}
-use mathlib.Core.Bool.{cond, not, _&&_}
+use mathlib.Core.Bool.{cond, _&&_}
 use mathlib.Core.List.{List, [], _∷_}
 use lib.Dec.{leb, ltb}
 use lib.ListN.{length, getD, drop}

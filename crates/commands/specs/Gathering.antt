@@ -3,7 +3,7 @@ use Prim.Native.Nat.{ℕ, _+_, _-_, _/_}
 use mathlib.Core.Bool.{true, false, cond, not, _&&_}
 use mathlib.Core.List.{List, [], _∷_}
 use lib.Dec.{eqb, leb, ltb}
-use lib.ListN.{length, set, take}
+use lib.ListN.{set, take}
 use Rattle.text.specs.Lines.{lineFeed}
 use Rattle.commands.specs.Commands.{hearSpace, hearOf, shortOf, longest}
 use Rattle.commands.specs.Octets.{isHexadecimal}

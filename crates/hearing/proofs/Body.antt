@@ -5,7 +5,7 @@ use mathlib.Core.List.{List}
 use Prim.Native.Nat.{ℕ, _+_, _-_, _≤_}
 use native.Mathlib.Omega.{arith}
 use lib.Dec.{eqb, leb}
-use lib.ListN.{length, drop, length-drop}
+use lib.ListN.{length, length-drop}
 use borrow.Author.Tests.{eqb-true, leb-true}
 use Rattle.area.specs.Areas.{inRange, memoryOctets}
 use Rattle.block.specs.Blocks.{blocksOf, startOf, lengthOf}

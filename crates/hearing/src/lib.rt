@@ -193,6 +193,6 @@ pub fn hear(station: Station, octets: &[u8], memory: &mut [u8], assembly: &mut [
     }
     match reading::read_header(octets) {
         Read::Frame(frame) => hear_header(station, frame, octets, memory, assembly),
-        Read::Refused(refusal) => refused(station, refusal),
+        Read::Refused(first) => refused(station, first),
     }
 }

@@ -1,2 +1,3 @@
 -- Laws that several crates cite.
+pub mod Lists
 pub mod Tests

@@ -1,9 +1,9 @@
 -- Laws for the loops over octets and entries. Assumes nothing.
 use mathlib.Core.Path.{_≡_, refl, ap, sym, _∙_}
-use mathlib.Core.List.{List, [], _∷_, _++_, map, append-assoc, append-nil}
+use mathlib.Core.List.{List, [], _∷_, _++_, append-assoc, append-nil}
 use Prim.Native.Nat.{ℕ, suc, _+_}
 use native.Mathlib.Omega.{arith}
-use lib.ListN.{length, length-map}
+use lib.ListN.{length}
 use Rattle.members.specs.declared.Entry.{Entry}
 use Rattle.replies.specs.Hex.{octetText, hexOf}
 use Rattle.replies.specs.Replies.{entryText, entriesFrom}
@@ -23,7 +23,3 @@ entries-more number (first ∷ rest) entry =
     ap (λ (l : List ℕ). entryText number first ++ l)
     (entries-more (suc number) rest entry ∙ ap (λ (n : ℕ). entriesFrom (suc number) rest ++ entryText n entry) there)
     ∙ sym (append-assoc (entryText number first) (entriesFrom (suc number) rest) (entryText (number + suc (length rest)) entry))
-
--- the length of an array of structs, which the logic tells of the list of their fields
-pub unmapped : {A B : Type 0} (f : A → B) (l : List A) (n : ℕ) → length (map f l) ≡ n → length l ≡ n
-unmapped f l n e = sym (length-map l f) ∙ e

@@ -13,7 +13,6 @@ use lib.Seq.{getD-set-same, getD-set-other}
 use Rattle.views.specs.Views.{stationsFrom, stationsOf, viewsOf, member, firstUnlisted, unlistedIn}
 use Rattle.views.specs.Proper.{listed-member}
 use Rattle.views.specs.declared.Ring.{Ring}
-use Rattle.settle_input.specs.declared.Verdict.the-variants as verdicts
 use Rattle.settle_input.specs.Input.{linesOf, stationIn, viewIn, formsFrom, formsOf, unlistedFrom, unlistedOf}
 use Rattle.settle_input.specs.Short.{formed, station-most}
 

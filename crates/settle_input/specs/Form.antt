@@ -2,14 +2,13 @@
 use mathlib.Core.Path.{_≡_, refl, ap, sym, _∙_}
 use mathlib.Core.Bool.{Bool, true, false, cond, _&&_}
 use mathlib.Core.List.{List, [], _∷_}
-use Prim.Native.Nat.{ℕ, suc, _+_, _-_, _≤_, _<_}
-use native.Mathlib.Nat.{le-refl}
+use Prim.Native.Nat.{ℕ, suc, _+_, _≤_, _<_}
 use native.Mathlib.Omega.{arith}
 use native.Mathlib.Numerals.{add-one}
 use native.Mathlib.Decide.{decLt}
 use borrow.Author.Tests.{lt-ltb, le-ltb}
 use lib.Dec.{eqb, ltb}
-use lib.ListN.{length, take, drop, length-take, length-drop}
+use lib.ListN.{length, take, length-take}
 use lib.Seq.{take-all}
 use Rattle.text.specs.Lines.{comma, lineFeed}
 use Rattle.settle_input.specs.Input.{numberIn, before, upTo, behind, noEntry, entryOf, firstLine}
@@ -17,10 +16,6 @@ use Rattle.settle_input.specs.Input.{numberIn, before, upTo, behind, noE
 pub empty-list : (l : List ℕ) → length l ≤ 0 → l ≡ []
 empty-list [] h = refl
 empty-list (x ∷ l) h = absurd (omega arith)
-
--- the part of a list from a place to its end
-pub to-end : (l : List ℕ) (start : ℕ) → take (length l - start) (drop start l) ≡ drop start l
-to-end l start = take-all (length l - start) (drop start l) (rw length-drop (le-refl _))
 
 -- no more octets stand before a mark than there are
 pub before-most : (mark : ℕ) (octets : List ℕ) → before mark octets ≤ length octets

@@ -176,12 +176,13 @@ pub fn restart(
     let waited = station.waited;
     let number = own.number;
     let block = place_kept(view, number, station.block);
+    let elapsed = Ticks(0);
     let panel = taken_if(takes(number, station.view, view), panel);
     Station {
         phase: Phase::Participating,
         own,
         members,
-        elapsed: Ticks(0),
+        elapsed,
         waited,
         rounds: station.rounds,
         sent: station.sent,

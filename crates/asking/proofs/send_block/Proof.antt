@@ -2,21 +2,21 @@
 use mathlib.Core.Path.{_≡_, refl, ap, ap₂, _∙_}
 use mathlib.Core.Bool.{Bool, true, false, cond}
 use mathlib.Core.List.{List}
-use Prim.Native.Nat.{ℕ, _-_, _*_}
+use Prim.Native.Nat.{ℕ, _*_}
 use native.Mathlib.Omega.{arith}
 use lib.Dec.{eqb}
-use lib.ListN.{length, take, drop, length-drop}
+use lib.ListN.{drop, length-drop}
 use Rattle.block.specs.Blocks.{blocksOf, lengthOf, startOf}
 use Rattle.block.specs.Cut.{at-most}
 use Rattle.frame.specs.Codes.{isCyclic}
 use Rattle.frame.specs.declared.Code.the-variants.{Token, Cyclic}
 use Rattle.frame.specs.declared.Fields.{Fields}
+use Rattle.laws.specs.Lists.{to-end}
 use Rattle.reading.specs.Reading.{dataSize}
 use Rattle.round_trip.specs.Sent.{blockFields}
 use Rattle.station.specs.Asking.{nextBlock}
 use Rattle.station.specs.declared.Asked.{Asked}
 use Rattle.writing.specs.Writing.{wholeLength, outputOf}
-use lib.Seq.{take-all}
 use borrow.Author.Needs.{needs}
 use Rattle.asking.proofs.send_block.Statement.{statement}
 use Rattle.asking.proofs.send_block.Tie as tie
@@ -26,10 +26,6 @@ use Rattle.asking.proofs.Placed.{placed}
 block-size : (test : Bool) (n : ℕ) → cond (isCyclic (cond test Token Cyclic)) n 0 ≡ n
 block-size true n = refl
 block-size false n = refl
-
--- what stands from a place on
-to-end : (l : List ℕ) (start : ℕ) → take (length l - start) (drop start l) ≡ drop start l
-to-end l start = take-all (length l - start) (drop start l) (rw (length-drop start l) (omega arith))
 
 next-after-requires : tie.Need-next-after-requires
 next-after-requires c κs = search needs

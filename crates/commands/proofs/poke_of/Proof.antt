@@ -9,7 +9,7 @@ use lib.Dec.{leb}
 use lib.ListN.{length, getD, drop, length-drop, List·getD-eq-default}
 use lib.Seq.{take-all}
 use borrow.Author.Tests.{le-leb, lt-leb, lt-ltb, leb-true}
-use Rattle.settle_input.specs.Form.{to-end}
+use Rattle.laws.specs.Lists.{to-end}
 use Rattle.settle_input.specs.Input.{before}
 use Rattle.commands.specs.Commands.{pokeBy, pokeOf}
 use Rattle.commands.specs.Octets.{octetsOf}

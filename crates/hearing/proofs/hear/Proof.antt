@@ -3,6 +3,7 @@ use mathlib.Core.Path.{_≡_, refl, sym, _∙_}
 use mathlib.Core.Bool.{Bool, true, false, not, _&&_, _||_}
 use lib.Dec.{eqb}
 use lib.ListN.{length}
+use Rattle.laws.specs.Tests.{first}
 use borrow.Author.Needs.{needs}
 use Rattle.hearing.proofs.hear.Statement.{statement}
 use Rattle.hearing.proofs.hear.Tie as tie
@@ -39,8 +40,8 @@ hear-header-requires c κs =
     let a = c .before .before .before .before .before .before .before .before .before .before .args in
     both-right (eqb (length (a .memory .now)) 17408) (eqb (length (a .assembly .now)) 17408) (c .before .before .before .before .before .before .if1 .left)
 
-enum-known-refusal : tie.Need-enum-known-refusal
-enum-known-refusal c = search needs
+enum-known-first : tie.Need-enum-known-first
+enum-known-first c = search needs
 
 refused-requires-2 : tie.Need-refused-requires-2
 refused-requires-2 c κs = search needs
@@ -63,7 +64,7 @@ returns-3 : tie.Need-returns-3
 returns-3 c =
     let a = c .before .before .before .before .before .before .before .before .before .args in
     let right = both-right (eqb (length (a .memory .now)) 17408) (eqb (length (a .assembly .now)) 17408) (c .before .before .before .before .before .if1 .left) in
-    let told = sym (c .before .before .before .before .read-header .ensures) ∙ c .before .before .refusal .given .1 in
+    let told = sym (c .before .before .before .before .read-header .ensures) ∙ c .before .before .first .given .1 in
     let done = c .refused2 .ensures in
     (done .0 ∙ rw (right, told), (done .1 ∙ rw (right, told), (rw (right, told), rw (right, told))))
 
@@ -76,7 +77,7 @@ hear-spec =
     read-header-requires
     enum-known-frame
     hear-header-requires
-    enum-known-refusal
+    enum-known-first
     refused-requires-2
     same-length
     same-length-2

@@ -5,8 +5,9 @@ use Prim.Native.Nat.{ℕ, _-_}
 use native.Mathlib.Nat.{sub-zero}
 use native.Mathlib.Omega.{arith}
 use lib.ListN.{length, take, drop, length-drop}
+use Rattle.laws.specs.Lists.{to-end}
 use Rattle.settle_input.specs.Input.{firstLine, entryOf}
-use Rattle.settle_input.specs.Form.{to-end, first-line-most, first-line-taken}
+use Rattle.settle_input.specs.Form.{first-line-most, first-line-taken}
 use borrow.Author.Needs.{needs}
 use Rattle.settle_input.proofs.line_at.Statement.{statement}
 use Rattle.settle_input.proofs.line_at.Tie as tie

@@ -6,7 +6,7 @@ use lib.ListN.{length, drop}
 use borrow.Author.Needs.{needs}
 use Rattle.members.specs.Listing.{overlapFrom}
 use Rattle.members.specs.Loops.{overlap-end, overlap-more}
-use Rattle.members.proofs.Length.{unmapped}
+use Rattle.laws.specs.Lists.{unmapped}
 use Rattle.members.proofs.listing.overlaps_other.Statement.{statement}
 use Rattle.members.proofs.listing.overlaps_other.Tie as tie
 

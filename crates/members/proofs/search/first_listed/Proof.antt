@@ -7,7 +7,7 @@ use borrow.Author.Needs.{needs}
 use Rattle.members.specs.Members.{numbersFrom}
 use Rattle.members.specs.Search.{firstIn}
 use Rattle.members.specs.Loops.{numbers-end, numbers-skip, numbers-first}
-use Rattle.members.proofs.Length.{unmapped}
+use Rattle.laws.specs.Lists.{unmapped}
 use Rattle.members.proofs.search.first_listed.Statement.{statement}
 use Rattle.members.proofs.search.first_listed.Tie as tie
 

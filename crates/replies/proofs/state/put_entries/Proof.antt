@@ -8,7 +8,8 @@ use lib.ListN.{length, take, getD}
 use lib.Seq.{length-take-le, take-suc, take-all}
 use Rattle.copying.specs.Laws.{paste-nothing}
 use Rattle.members.specs.Members.{nobody}
-use Rattle.replies.specs.Loops.{entries-more, unmapped}
+use Rattle.replies.specs.Loops.{entries-more}
+use Rattle.laws.specs.Lists.{unmapped}
 use Rattle.replies.specs.Replies.{entryText, entriesFrom}
 use Rattle.replies.specs.Room.{entries-length}
 use Rattle.replies.specs.Written.{Written, then}

@@ -8,8 +8,9 @@ use native.Mathlib.Omega.{arith}
 use lib.Dec.{ltb}
 use lib.ListN.{length, take, drop}
 use Rattle.text.specs.Lines.{comma, lineFeed}
+use Rattle.laws.specs.Lists.{to-end}
 use Rattle.settle_input.specs.Input.{numberIn, before, behind, noEntry, entryOf}
-use Rattle.settle_input.specs.Form.{to-end, no-comma, no-end, entry-made}
+use Rattle.settle_input.specs.Form.{no-comma, no-end, entry-made}
 use borrow.Author.Needs.{needs}
 use Rattle.settle_input.proofs.fields.entry_of.Statement.{statement}
 use Rattle.settle_input.proofs.fields.entry_of.Tie as tie
