@@ -1,0 +1,4 @@
+// Drives one station from text: commands on standard input, answers on standard output.
+fn main() {
+    replay_run::run();
+}
