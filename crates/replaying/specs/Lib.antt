@@ -2,3 +2,4 @@
 pub mod Replaying
 -- Theorems.
 pub mod Cut
+pub mod Lines
