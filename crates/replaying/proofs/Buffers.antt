@@ -1,11 +1,10 @@
 -- Parts of a list, and octets put in front of one. Assumes nothing.
 use mathlib.Core.Path.{_≡_, ap, sym, _∙_}
-use mathlib.Core.List.{List, [], _++_, append-nil}
-use Prim.Native.Nat.{ℕ, _+_, _-_, _≤_, _<_}
-use native.Mathlib.Nat.{zero-add}
+use mathlib.Core.List.{List, _++_, append-nil}
+use Prim.Native.Nat.{ℕ, _+_, _-_, _≤_}
 use native.Mathlib.Omega.{arith}
 use lib.ListN.{length, take, drop, length-drop, drop-of-length-le}
-use lib.Seq.{take-all, take-nil, take-at, drop-drop}
+use lib.Seq.{take-all, take-at, drop-drop}
 use borrow.Rule.Slice.PartMut.{putMid, midOf}
 use Rattle.copying.specs.Laws.{paste-front}
 use Rattle.copying.specs.Pasted.{pasted}

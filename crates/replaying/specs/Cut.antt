@@ -1,6 +1,5 @@
 -- Of octets that are longer than any frame, the first 1121 are heard as all of them are. Assumes nothing.
-use mathlib.Core.Path.{_≡_, refl, ap, ap₂, sym, _∙_}
-use mathlib.Core.Bool.{Bool, true, false, cond}
+use mathlib.Core.Path.{_≡_, ap}
 use mathlib.Core.List.{List}
 use Prim.Native.Nat.{ℕ, _≤_, _<_}
 use native.Mathlib.Decide.{decLe}
@@ -10,9 +9,8 @@ use lib.Seq.{length-take-le, take-all}
 use borrow.Author.Tests.{lt-leb, le-leb}
 use Rattle.frame.specs.declared.Refusal.the-variants.{Cut}
 use Rattle.reading.specs.Reading.{readHeaderOf}
-use Rattle.reading.specs.declared.Read.{Read}
 use Rattle.reading.specs.declared.Read.the-variants.{Refused}
-use Rattle.station.specs.Hearing.{Hearing, headerHeard, hearOf, lentRight}
+use Rattle.station.specs.Hearing.{hearOf}
 use Rattle.station.specs.declared.Station.{Station}
 
 -- more than 1120 octets are refused by number 1
