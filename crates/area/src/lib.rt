@@ -15,11 +15,13 @@ pub struct Extent {
 }
 
 // What a station has of one area, in words.
+#[repr(C)]
 pub struct Part {
     pub address: u16,
     pub size: u16,
 }
 
+#[repr(C)]
 pub struct Areas {
     pub one: Part,
     pub two: Part,

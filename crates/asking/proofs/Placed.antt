@@ -6,27 +6,27 @@ use native.Mathlib.Omega.{arith}
 use lib.Dec.{eqb, leb, ltb}
 use borrow.Author.Tests.{ltb-true, eqb-true, eqb-false, le-leb, lt-leb}
 use Rattle.area.specs.Areas.{inRange, memoryOctets}
+use Rattle.area.specs.declared.Areas.{Areas}
+use Rattle.asking.specs.Parts.{placedIn, lastIn}
 use Rattle.block.specs.Blocks.{blocksOf, lengthOf}
 use Rattle.block.specs.Cut.{seventeen, within, fits}
 use Rattle.laws.specs.Tests.{first, second}
-use Rattle.station.specs.Asking.{isPlaced, nextBlock, isLast}
-use Rattle.station.specs.declared.Station.{Station}
 
-pub record Placed (station : Station) : Type 0 where
-  pub ranged : inRange (station .own .areas) ≡ true
-  pub next : station .block + 1 ≤ blocksOf (station .own .areas)
-  pub few : blocksOf (station .own .areas) ≤ 17
-  -- the block ends inside the common memory
-  pub ends : 1024 * station .block + lengthOf (station .own .areas) (nextBlock station) ≤ memoryOctets
+module _ (areas : Areas) (block : ℕ) where
+  pub record Placed : Type 0 where
+    pub ranged : inRange areas ≡ true
+    pub next : block + 1 ≤ blocksOf areas
+    pub few : blocksOf areas ≤ 17
+    -- the block ends inside the common memory
+    pub ends : 1024 * block + lengthOf areas (block + 1) ≤ memoryOctets
 
-pub placed : (station : Station) → isPlaced station ≡ true → Placed station
-placed station e =
-    let areas = station .own .areas in
-    let ranged = first (inRange areas) (ltb (station .block) (blocksOf areas)) e in
-    let place = ltb-true (station .block) (blocksOf areas) (second (inRange areas) (ltb (station .block) (blocksOf areas)) e) in
-    let end = within areas (nextBlock station) (omega arith) in
-    let whole = fits areas ranged in
-    record { ranged = ranged; next = omega arith; few = seventeen areas ranged; ends = omega arith }
+  pub placed : placedIn areas block ≡ true → Placed
+  placed e =
+      let ranged = first (inRange areas) (ltb block (blocksOf areas)) e in
+      let place = ltb-true block (blocksOf areas) (second (inRange areas) (ltb block (blocksOf areas)) e) in
+      let end = within areas (block + 1) (omega arith) in
+      let whole = fits areas ranged in
+      record { ranged = ranged; next = omega arith; few = seventeen areas ranged; ends = omega arith }
 
 at-most-equal : (n m : ℕ) → n ≤ m → leb m n ≡ eqb n m
 at-most-equal n m h = by (eqb n m) refl
@@ -36,5 +36,5 @@ at-most-equal n m h = by (eqb n m) refl
     by false e = lt-leb m n (omega (arith, eqb-false n m e))
 
 -- the last block has the number of the blocks
-pub last-equal : (station : Station) → isPlaced station ≡ true → isLast station ≡ eqb (nextBlock station) (blocksOf (station .own .areas))
-last-equal station e = at-most-equal (nextBlock station) (blocksOf (station .own .areas)) (placed station e .next)
+pub last-equal : (areas : Areas) (block : ℕ) → placedIn areas block ≡ true → lastIn areas block ≡ eqb (block + 1) (blocksOf areas)
+last-equal areas block e = at-most-equal (block + 1) (blocksOf areas) (placed areas block e .next)

@@ -1,21 +1,20 @@
 // The fields of the frames that we send.
+use area::Areas;
 use frame::Code;
 use frame::Fields;
 use station::Settings;
-use station::Station;
 use units::Milliseconds;
 ghost use mathlib.Core.Path.{_≡_};
 ghost use mathlib.Core.Bool.{true, cond};
+ghost use Rattle.asking.specs.Parts.{placedIn, lastIn, nextFields};
 ghost use Rattle.frame.specs.declared.Code.the-variants.{Token, Cyclic};
-ghost use Rattle.round_trip.specs.Sent.{blockFields, requestFields, triggerFields};
-ghost use Rattle.station.specs.Asking.{isPlaced, isLast, nextBlock};
+ghost use Rattle.round_trip.specs.Sent.{requestFields, triggerFields};
 
-pub fn is_last(station: Station) -> bool
-    ensures { λ r. ⌜ r ≡ isLast station ⌝ }
+// Whether the next block of our turn is the last.
+pub fn is_last(areas: Areas, block: u8) -> bool
+    ensures { λ r. ⌜ r ≡ lastIn areas block ⌝ }
 {
-    let own = station.own;
-    let areas = own.areas;
-    block::blocks(areas) <= station.block as usize + 1
+    block::blocks(areas) <= block as usize + 1
 }
 
 // "The last is code 65000"
@@ -26,15 +25,14 @@ fn block_code(last: bool) -> Code
 }
 
 // Of the next block of our turn. It is one of at most 17, so that its numbers fit their fields.
-pub fn block_fields(station: Station, next: u8) -> Fields
-    requires { ⌜ isPlaced station ≡ true ⌝ }
-    ensures { λ r. ⌜ r ≡ blockFields (station .own .number) next (station .own .areas) (station .own .watch) (nextBlock station) ⌝ }
+pub fn block_fields(own: Settings, block: u8, next: u8) -> Fields
+    requires { ⌜ placedIn (own .areas) block ≡ true ⌝ }
+    ensures { λ r. ⌜ r ≡ nextFields own block next ⌝ }
 {
-    let own = station.own;
     let areas = own.areas;
     let watch = own.watch;
-    let block = station.block + 1;
-    let code = block_code(is_last(station));
+    let code = block_code(is_last(areas, block));
+    let block = block + 1;
     let size = block::block_length(areas, block);
     Fields {
         length: 64 + size as u32,

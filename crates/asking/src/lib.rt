@@ -5,24 +5,30 @@ mod sent;
 mod turn;
 
 use due::is_due;
+pub use due::is_placed;
 use fields::block_fields;
+pub use fields::is_last;
 use fields::request_fields;
 use fields::trigger_fields;
 use frame::Fields;
 use frame::Refusal;
+pub use sent::Sent;
+pub use sent::after_block;
 use sent::block_sent;
 use sent::request_sent;
 use station::Asked;
 use station::Phase;
+use station::Settings;
 use station::Station;
 use turn::make_turn;
 use writing::Written;
 ghost use mathlib.Core.Path.{_≡_};
 ghost use mathlib.Core.Bool.{true};
 ghost use mathlib.Core.List.{[]};
-ghost use Prim.Native.Nat.{_≤_};
+ghost use Prim.Native.Nat.{_+_, _≤_};
 ghost use lib.ListN.{length, drop};
 ghost use Rattle.area.specs.Areas.{memoryOctets};
+ghost use Rattle.asking.specs.Parts.{placedIn, nextFields, turnFor};
 ghost use Rattle.block.specs.Blocks.{startOf};
 ghost use Rattle.reading.specs.Reading.{dataSize};
 ghost use Rattle.station.specs.Asking.{isPlaced, dueIn, nextBlock, dueFields, turnAfter, blockSent, sentIn, lentRight, askOf};
@@ -43,22 +49,22 @@ fn refused(station: Station, refusal: Refusal) -> Asking
     Asking { station, answer }
 }
 
-fn is_lent_right(memory: &[u8], turn: &[u8], output: &[u8]) -> bool
+pub fn is_lent_right(memory: &[u8], turn: &[u8], output: &[u8]) -> bool
     ensures { λ r. ⌜ r ≡ lentRight (now (memory .entry)) (now (turn .entry)) (now (output .entry)) ⌝ }
 {
     (memory.len() == 17408) & (turn.len() == 17408) & (1088 <= output.len())
 }
 
 // Writes a frame that has its data in the block and its room in the output, so that writing does not refuse it.
-fn write(fields: Fields, block: &[u8], output: &mut [u8]) -> Asked
+fn write(fields: Fields, block: &[u8], output: &mut [u8]) -> usize
     requires { ⌜ dataSize fields ≤ length (now block) ⌝ }
     requires { ⌜ wholeLength fields ≤ length (now output) ⌝ }
-    ensures { λ r. ⌜ r ≡ Asked.Octets (wholeLength fields) ⌝ }
+    ensures { λ r. ⌜ r ≡ wholeLength fields ⌝ }
     ensures { λ _. ⌜ now (output .exit) ≡ outputOf fields (now (block .entry)) (now (output .entry)) ⌝ }
 {
     match writing::write_frame(fields, block, output) {
-        Written::Octets(octets) => Asked::Octets(octets),
-        Written::Refused(refusal) => Asked::Refused(refusal),
+        Written::Octets(octets) => octets,
+        Written::Refused(_) => 0,
     }
 }
 
@@ -71,11 +77,34 @@ fn send_bare(station: Station, fields: Fields, output: &mut [u8]) -> Asking
     ensures { λ _. ⌜ now (output .exit) ≡ outputOf fields [] (now (output .entry)) ⌝ }
 {
     let none = [0u8; 1];
-    let answer = write(fields, &none[0..0], output);
+    let answer = Asked::Octets(write(fields, &none[0..0], output));
     Asking { station, answer }
 }
 
-// The next block of our turn.
+// The next block of our turn, to `next`: writes its frame, and answers the frame's length. The turn is copied at the first block.
+pub fn send_next(
+    own: Settings,
+    block: u8,
+    next: u8,
+    memory: &[u8],
+    turn: &mut [u8],
+    output: &mut [u8],
+) -> usize
+    requires { ⌜ placedIn (own .areas) block ≡ true ⌝ }
+    requires { ⌜ length (now memory) ≡ memoryOctets ⌝ }
+    requires { ⌜ length (now turn) ≡ memoryOctets ⌝ }
+    requires { ⌜ 1088 ≤ length (now output) ⌝ }
+    ensures { λ r. ⌜ r ≡ wholeLength (nextFields own block next) ⌝ }
+    ensures { λ _. ⌜ now (turn .exit) ≡ turnFor (own .areas) block (now (memory .entry)) (now (turn .entry)) ⌝ }
+    ensures { λ _. ⌜ now (output .exit) ≡ outputOf (nextFields own block next) (drop (startOf (block + 1)) (turnFor (own .areas) block (now (memory .entry)) (now (turn .entry)))) (now (output .entry)) ⌝ }
+{
+    let areas = own.areas;
+    make_turn(areas, block, memory, turn);
+    let start = 1024 * block as usize;
+    write(block_fields(own, block, next), &turn[start..], output)
+}
+
+// The next block of our turn, to the station that the list has as next.
 fn send_block(station: Station, memory: &[u8], turn: &mut [u8], output: &mut [u8]) -> Asking
     requires { ⌜ isPlaced station ≡ true ⌝ }
     requires { ⌜ length (now memory) ≡ memoryOctets ⌝ }
@@ -86,12 +115,12 @@ fn send_block(station: Station, memory: &[u8], turn: &mut [u8], output: &mut [u8
     ensures { λ _. ⌜ now (turn .exit) ≡ turnAfter Participating station (now (memory .entry)) (now (turn .entry)) ⌝ }
     ensures { λ _. ⌜ now (output .exit) ≡ outputOf (dueFields Participating station) (drop (startOf (nextBlock station)) (turnAfter Participating station (now (memory .entry)) (now (turn .entry)))) (now (output .entry)) ⌝ }
 {
-    let number = station.own.number;
+    let own = station.own;
+    let number = own.number;
     let members = station.members;
     let next = members::next_after(number, members, number);
-    make_turn(station, memory, turn);
-    let start = 1024 * station.block as usize;
-    let answer = write(block_fields(station, next), &turn[start..], output);
+    let octets = send_next(own, station.block, next, memory, turn, output);
+    let answer = Asked::Octets(octets);
     let station = block_sent(station, next);
     Asking { station, answer }
 }

@@ -2,16 +2,14 @@
 use area::Area;
 use area::Areas;
 use area::Part;
-use station::Station;
 ghost use mathlib.Core.Path.{_≡_};
 ghost use mathlib.Core.Bool.{true};
 ghost use Prim.Native.Nat.{_+_, _*_, _≤_};
 ghost use lib.ListN.{length};
 ghost use Rattle.area.specs.Areas.{inArea, inRange, memoryOctets, spanOf};
+ghost use Rattle.asking.specs.Parts.{turnFor};
 ghost use Rattle.copying.specs.Pasted.{pasted};
-ghost use Rattle.station.specs.Asking.{isPlaced, turnAfter};
 ghost use Rattle.station.specs.Data.{octetsIn, turnOf};
-ghost use Rattle.station.specs.declared.Phase.the-variants.{Participating};
 
 // Copies what we have of one area into the turn, from octet `at` on.
 fn copy_part(area: Area, part: Part, memory: &[u8], turn: &mut [u8], at: usize)
@@ -40,15 +38,13 @@ fn copy_turn(areas: Areas, memory: &[u8], turn: &mut [u8])
 }
 
 // The copy is made at the first block of our turn.
-pub fn make_turn(station: Station, memory: &[u8], turn: &mut [u8])
-    requires { ⌜ isPlaced station ≡ true ⌝ }
+pub fn make_turn(areas: Areas, block: u8, memory: &[u8], turn: &mut [u8])
+    requires { ⌜ inRange areas ≡ true ⌝ }
     requires { ⌜ length (now memory) ≡ memoryOctets ⌝ }
     requires { ⌜ length (now turn) ≡ memoryOctets ⌝ }
-    ensures { λ _. ⌜ now (turn .exit) ≡ turnAfter Participating station (now (memory .entry)) (now (turn .entry)) ⌝ }
+    ensures { λ _. ⌜ now (turn .exit) ≡ turnFor areas block (now (memory .entry)) (now (turn .entry)) ⌝ }
 {
-    let own = station.own;
-    let areas = own.areas;
-    if station.block == 0 {
+    if block == 0 {
         copy_turn(areas, memory, turn);
     }
 }

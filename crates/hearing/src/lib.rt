@@ -1,20 +1,23 @@
 // Hearing a frame.
 mod token;
 
+use area::Areas;
 use frame::Fields;
 use frame::Refusal;
+use gathering::Stored;
 use reading::Read;
+use station::Gathering;
 use station::Heard;
 use station::Station;
-use token::outcome_of;
-use token::view_heard;
+pub use token::outcome_of;
+pub use token::view_heard;
 ghost use mathlib.Core.Path.{_≡_};
 ghost use mathlib.Core.Bool.{true};
 ghost use lib.ListN.{length};
 ghost use Rattle.frame.specs.Codes.{isCyclic};
 ghost use Rattle.reading.specs.Reading.{readBodyOf, dataOf};
 ghost use Rattle.reading.specs.declared.Read.the-variants as reads;
-ghost use Rattle.station.specs.Data.{gathered};
+ghost use Rattle.station.specs.Data.{gathered, gatheredFrom};
 ghost use Rattle.station.specs.Hearing.{knows as knowsOf, isStranger, isTaken, afterTaken, lentRight, participantHeard, accepted, bodyHeard, headerHeard, hearOf};
 
 // A call of hear: the state after it, and the answer.
@@ -72,7 +75,28 @@ fn is_stranger(station: Station, frame: Fields) -> bool
     asked & !known
 }
 
-// A cyclic frame that a participant accepts. Its data are a part of the octets heard, and are not copied before they are gathered.
+// What a cyclic frame adds to what was gathered. Its data are a part of the octets heard, and are not copied before they are gathered.
+pub fn gather_frame(
+    before: Gathering,
+    listed: Areas,
+    frame: Fields,
+    octets: &[u8],
+    memory: &mut [u8],
+    assembly: &mut [u8],
+) -> Stored
+    requires { ⌜ lentRight (now memory) (now assembly) ≡ true ⌝ }
+    requires { ⌜ readBodyOf (length (now octets)) frame ≡ reads.Frame frame ⌝ }
+    requires { ⌜ isCyclic (frame .code) ≡ true ⌝ }
+    ensures { λ r. ⌜ r .gathering ≡ gatheredFrom before listed frame (dataOf (now (octets .entry)) frame) (now (assembly .entry)) (now (memory .entry)) .gathering ⌝ }
+    ensures { λ r. ⌜ r .outcome ≡ gatheredFrom before listed frame (dataOf (now (octets .entry)) frame) (now (assembly .entry)) (now (memory .entry)) .outcome ⌝ }
+    ensures { λ _. ⌜ now (memory .exit) ≡ gatheredFrom before listed frame (dataOf (now (octets .entry)) frame) (now (assembly .entry)) (now (memory .entry)) .memory ⌝ }
+    ensures { λ _. ⌜ now (assembly .exit) ≡ gatheredFrom before listed frame (dataOf (now (octets .entry)) frame) (now (assembly .entry)) (now (memory .entry)) .assembly ⌝ }
+{
+    let part = reading::data_of(octets, frame);
+    gathering::gather(before, listed, frame, part, assembly, memory)
+}
+
+// A cyclic frame that a participant accepts.
 fn participant_hears(
     station: Station,
     frame: Fields,
@@ -93,11 +117,11 @@ fn participant_hears(
     let panel = station.panel;
     let entry = members::entry_of(members, frame.source);
     let listed = entry.areas;
-    let part = reading::data_of(octets, frame);
-    let stored = gathering::gather(before, listed, frame, part, assembly, memory);
+    let stored = gather_frame(before, listed, frame, octets, memory, assembly);
     let after = stored.gathering;
     let outcome = stored.outcome;
-    let answer = Heard::Cyclic(outcome_of(station, frame, outcome));
+    let number = station.own.number;
+    let answer = Heard::Cyclic(outcome_of(number, station.view, frame, outcome));
     let view = view_heard(station.view, frame);
     let station = states::restart(
         station,

@@ -1,10 +1,10 @@
 // What a frame does to the token view, and what is answered of it.
 use frame::Fields;
 use station::Data;
-use station::Station;
 use station::Token;
 ghost use mathlib.Core.Path.{_≡_};
-ghost use Rattle.station.specs.Token.{viewAfter, viewHeard, outcomeOf};
+ghost use Rattle.hearing.specs.Parts.{outcomeBy};
+ghost use Rattle.station.specs.Token.{viewAfter, viewHeard};
 
 // "if the source is our view, the view becomes the destination. Otherwise the view becomes the smaller of view and destination."
 fn view_after(view: u8, source: u8, destination: u8) -> u8
@@ -20,7 +20,7 @@ fn view_after(view: u8, source: u8, destination: u8) -> u8
     }
 }
 
-pub(crate) fn view_heard(view: u8, frame: Fields) -> u8
+pub fn view_heard(view: u8, frame: Fields) -> u8
     ensures { λ r. ⌜ r ≡ viewHeard view frame ⌝ }
 {
     let code = frame.code;
@@ -31,17 +31,16 @@ pub(crate) fn view_heard(view: u8, frame: Fields) -> u8
     }
 }
 
-pub(crate) fn outcome_of(station: Station, frame: Fields, outcome: Data) -> Token
-    ensures { λ r. ⌜ r ≡ outcomeOf station frame outcome ⌝ }
+// The answer of a participant with its own number and its view before.
+pub fn outcome_of(own: u8, before: u8, frame: Fields, outcome: Data) -> Token
+    ensures { λ r. ⌜ r ≡ outcomeBy own before frame outcome ⌝ }
 {
     let code = frame.code;
-    let own = station.own;
-    let before = station.view;
     let after = view_heard(before, frame);
     if !frame::is_token(code) {
         return Token::None(outcome);
     }
-    if states::takes(own.number, before, after) {
+    if states::takes(own, before, after) {
         return Token::OursNow(outcome);
     }
     if frame.source == before {

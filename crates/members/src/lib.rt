@@ -19,6 +19,7 @@ pub use search::smallest;
 use units::Milliseconds;
 
 // An entry, at the place of its station's number. One that is not listed holds nothing else.
+#[repr(C)]
 pub struct Entry {
     pub listed: bool,
     pub areas: Areas,
@@ -26,6 +27,7 @@ pub struct Entry {
     pub misses: u8,
 }
 
+#[repr(C)]
 pub struct Members {
     pub entries: [Entry; 256],
 }

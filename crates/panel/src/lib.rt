@@ -4,6 +4,7 @@ ghost use mathlib.Core.Path.{_≡_};
 ghost use Rattle.panel.specs.Panel.{blank, counted, ticked, taken, figureOf, shown};
 
 // The takings since we began to participate (2 stands for more), the ticks since the last one, and the last finished gap.
+#[repr(C)]
 pub struct Panel {
     pub takings: u8,
     pub running: Ticks,

@@ -20,7 +20,8 @@ pub use waits::number_wait;
 ghost use mathlib.Core.Path.{_≡_};
 ghost use mathlib.Core.Bool.{cond};
 ghost use lib.Dec.{eqb};
-ghost use Rattle.panel.specs.Panel.{taken};
+ghost use Rattle.panel.specs.Panel.{taken, figureOf};
+ghost use Rattle.panel.specs.declared.Figure.the-variants.{Nothing};
 ghost use Rattle.station.specs.Data.{without as withoutOf};
 ghost use Rattle.station.specs.Showing.{figureShown};
 ghost use Rattle.station.specs.State.{isOff, isParticipating, nothing, fresh as freshOf, stopped as stoppedOf, never as neverOf, holds as holdsOf, begun};
@@ -156,7 +157,7 @@ pub fn takes(own: u8, before: u8, after: u8) -> bool
 }
 
 // A station that stops holding forgets how far its turn had come.
-fn place_kept(view: u8, own: u8, block: u8) -> u8
+pub fn place_kept(view: u8, own: u8, block: u8) -> u8
     ensures { λ r. ⌜ r ≡ cond (eqb view own) block 0 ⌝ }
 {
     if view == own { block } else { 0 }
@@ -214,15 +215,21 @@ pub fn begin(own: Settings, members: Members, view: u8) -> Station
     }
 }
 
-// What the panel shows.
-pub fn show(station: Station) -> Figure
-    ensures { λ r. ⌜ r ≡ figureShown station ⌝ }
+// What the panel shows in a phase.
+pub fn figure_in(phase: Phase, panel: Panel) -> Figure
+    ensures { λ r. ⌜ r ≡ cond (isParticipating phase) (figureOf panel) Nothing ⌝ }
 {
-    let phase = station.phase;
-    let panel = station.panel;
     if is_participating(phase) {
         panel::figure_of(panel)
     } else {
         Figure::Nothing
     }
+}
+
+pub fn show(station: Station) -> Figure
+    ensures { λ r. ⌜ r ≡ figureShown station ⌝ }
+{
+    let phase = station.phase;
+    let panel = station.panel;
+    figure_in(phase, panel)
 }

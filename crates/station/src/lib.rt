@@ -15,6 +15,7 @@ pub enum Phase {
 }
 
 // What a station is started with.
+#[repr(C)]
 pub struct Settings {
     pub number: u8,
     pub areas: Areas,
@@ -22,6 +23,7 @@ pub struct Settings {
 }
 
 // What has been put together of a turn: whose it is, and how many of its blocks. Source 0 is nobody's.
+#[repr(C)]
 pub struct Gathering {
     pub source: u8,
     pub blocks: u8,

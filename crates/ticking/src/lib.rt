@@ -6,15 +6,17 @@ use station::Phase;
 use station::Settings;
 use station::Station;
 use station::Ticked;
+use units::Milliseconds;
 use units::Ticks;
 ghost use mathlib.Core.Path.{_≡_};
 ghost use mathlib.Core.Bool.{cond, _&&_};
-ghost use lib.Dec.{eqb};
+ghost use Prim.Native.Nat.{_+_};
+ghost use lib.Dec.{eqb, leb};
 ghost use Rattle.members.specs.Members.{numbersOf, isListed, strikes};
 ghost use Rattle.station.specs.Data.{without as withoutOf};
 ghost use Rattle.station.specs.Starting.{startedUp};
-ghost use Rattle.station.specs.Ticking.{later, counted, fallsDue, startupTick, joiningTick, watchEnded, watchEnds, participantTick, tickedBy, tickAnswer, tickOf};
-ghost use Rattle.station.specs.Waits.{numberWait};
+ghost use Rattle.station.specs.Ticking.{later, counted, fallsDue, startupTick, joiningTick, watchEnded, participantTick, tickedBy, tickAnswer, tickOf};
+ghost use Rattle.station.specs.Waits.{numberWait, watchTicks};
 ghost use Rattle.station.specs.declared.Phase.the-variants as phases;
 
 // A call of tick: the state after it, and the answer.
@@ -137,22 +139,22 @@ fn watch_ended(station: Station) -> Station
     )
 }
 
-fn watch_ends(station: Station) -> bool
-    ensures { λ r. ⌜ r ≡ watchEnds station ⌝ }
+// Whether the next tick ends the watch.
+pub fn watch_ends(time: Milliseconds, elapsed: Ticks) -> bool
+    ensures { λ r. ⌜ r ≡ leb (watchTicks time) (elapsed .0 + 1) ⌝ }
 {
-    let own = station.own;
-    let elapsed = station.elapsed;
-    let watch = units::in_ticks(own.watch);
+    let watch = units::in_ticks(time);
     watch.0 as u64 <= elapsed.0 as u64 + 1
 }
 
 fn participant_tick(station: Station, elapsed: Ticks) -> Station
     ensures { λ r. ⌜ r ≡ participantTick station elapsed ⌝ }
 {
-    if watch_ends(station) {
+    let own = station.own;
+    let before = station.elapsed;
+    if watch_ends(own.watch, before) {
         return watch_ended(station);
     }
-    let own = station.own;
     let waited = station.waited;
     let panel = station.panel;
     count(station, own, elapsed, waited, panel::tick(panel))

@@ -3,9 +3,11 @@ ghost use mathlib.Core.Path.{_≡_};
 ghost use Rattle.units.specs.Time.{inTicks};
 
 // A number of ticks of 100 microseconds.
+#[repr(C)]
 pub struct Ticks(pub u32);
 
 // A number of milliseconds: a watch time, as wide as its field of a frame.
+#[repr(C)]
 pub struct Milliseconds(pub u8);
 
 // "10 ticks each": the only way from one unit to the other.

@@ -1,17 +1,16 @@
 -- `asking::write` meets its contract.
-use mathlib.Core.Path.{_≡_, ap, sym, _∙_}
+use mathlib.Core.Path.{_≡_, sym, _∙_}
 use mathlib.Core.List.{List}
 use Prim.Native.Nat.{ℕ, _≤_}
 use native.Mathlib.Omega.{arith}
 use lib.ListN.{length}
+use borrow.Author.Needs.{needs}
 use borrow.Author.Tests.{le-leb}
 use Rattle.frame.specs.declared.Fields.{Fields}
 use Rattle.frame.specs.declared.Refusal.{Refusal}
 use Rattle.reading.specs.Reading.{dataSize}
-use Rattle.station.specs.declared.Asked.{Asked}
 use Rattle.writing.specs.Writing.{wholeLength, writtenOf}
 use Rattle.writing.specs.declared.Written.the-variants.{Octets, Refused}
-use borrow.Author.Needs.{needs}
 use Rattle.asking.proofs.write.Statement.{statement}
 use Rattle.asking.proofs.write.Tie as tie
 
@@ -32,8 +31,8 @@ write-frame-requires c κs = search needs
 enum-known-octets : tie.Need-enum-known-octets
 enum-known-octets c = search needs
 
-enum-known-refusal : tie.Need-enum-known-refusal
-enum-known-refusal c = search needs
+enum-told : tie.Need-enum-told
+enum-told c = search needs
 
 same-length : tie.Need-same-length
 same-length c = search needs
@@ -43,18 +42,17 @@ returns c =
     let a = c .before .before .before .before .before .before .before .before .before .args in
     let found = accepted (a .fields) (a .block .now) (a .output .now) (c .before .before .before .before .before .before .before .before .before .pre .0) (c .before .before .before .before .before .before .before .before .before .pre .1) in
     let w = c .before .before .before .before .before .write-frame .ensures in
-    let same : c .before .octets .given .0 .0 ≡ wholeLength (a .fields) = same-octets (sym (c .before .octets .given .1) ∙ w .0 ∙ found) in
-    (ap Asked.Octets same, w .1)
+    (same-octets (sym (c .before .octets .given .1) ∙ w .0 ∙ found), w .1)
 
 same-length-2 : tie.Need-same-length-2
 same-length-2 c = search needs
 
 returns-2 : tie.Need-returns-2
 returns-2 c =
-    let a = c .before .before .before .before .before .before .before .before .before .args in
-    let found = accepted (a .fields) (a .block .now) (a .output .now) (c .before .before .before .before .before .before .before .before .before .pre .0) (c .before .before .before .before .before .before .before .before .before .pre .1) in
-    let w = c .before .before .before .before .before .write-frame .ensures in
-    absurd (not-octets (sym (c .before .refusal .given .1) ∙ w .0 ∙ found))
+    let a = c .before .before .before .before .before .before .before .before .args in
+    let found = accepted (a .fields) (a .block .now) (a .output .now) (c .before .before .before .before .before .before .before .before .pre .0) (c .before .before .before .before .before .before .before .before .pre .1) in
+    let w = c .before .before .before .before .write-frame .ensures in
+    absurd (not-octets (sym (c .enum-told .given .1) ∙ w .0 ∙ found))
 
 pub write-spec : {M : Type 1} → statement M
 write-spec =
@@ -62,7 +60,7 @@ write-spec =
     (tie.spec
     write-frame-requires
     enum-known-octets
-    enum-known-refusal
+    enum-told
     same-length
     returns
     same-length-2

@@ -20,7 +20,7 @@ count-requires : tie.Need-count-requires
 count-requires c κs = search needs
 
 returns-2 : tie.Need-returns-2
-returns-2 c = c .count .ensures ∙ rw (c .before .tick .ensures, ← c .before .before .before .before .before .before .watch-ends .ensures, c .before .before .before .before .before .if1 .left)
+returns-2 c = c .count .ensures ∙ rw (c .before .tick .ensures, ← c .before .before .before .before .before .watch-ends .ensures, c .before .before .before .before .if1 .left)
 
 pub participant-tick-spec : {M : Type 1} → statement M
 participant-tick-spec =

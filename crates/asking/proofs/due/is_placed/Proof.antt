@@ -6,14 +6,11 @@ use Rattle.asking.proofs.due.is_placed.Tie as tie
 in-range-requires : tie.Need-in-range-requires
 in-range-requires c κs = search needs
 
-cast-result : tie.Need-cast-result
-cast-result c = search needs
-
 blocks-requires : tie.Need-blocks-requires
 blocks-requires c κs = search needs
 
 returns : tie.Need-returns
-returns c = rw (c .blocks2 .ensures, c .before .before .in-range .ensures)
+returns c = rw (c .blocks2 .ensures, c .before .in-range .ensures)
 
 pub is-placed-spec : {M : Type 1} → statement M
-is-placed-spec = tie.close (tie.spec in-range-requires cast-result blocks-requires returns)
+is-placed-spec = tie.close (tie.spec in-range-requires blocks-requires returns)

@@ -6,14 +6,11 @@ use Rattle.asking.proofs.fields.is_last.Tie as tie
 blocks-requires : tie.Need-blocks-requires
 blocks-requires c κs = search needs
 
-cast-result : tie.Need-cast-result
-cast-result c = search needs
-
 add-result : tie.Need-add-result
 add-result c = search needs
 
 returns : tie.Need-returns
-returns c = rw (c .before .blocks2 .ensures)
+returns c = rw (c .blocks2 .ensures)
 
 pub is-last-spec : {M : Type 1} → statement M
-is-last-spec = tie.close (tie.spec blocks-requires cast-result add-result returns)
+is-last-spec = tie.close (tie.spec blocks-requires add-result returns)

@@ -1,0 +1,16 @@
+-- `boundary::quick::quiet` meets its contract.
+use borrow.Author.Needs.{needs}
+use Rattle.boundary.proofs.quick.quiet.Statement.{statement}
+use Rattle.boundary.proofs.quick.quiet.Tie as tie
+
+later-requires : tie.Need-later-requires
+later-requires c κs = search needs
+
+tick-requires : tie.Need-tick-requires
+tick-requires c κs = search needs
+
+returns : tie.Need-returns
+returns c = rw (c .before .before .before .tick .ensures, c .before .before .before .before .later .ensures)
+
+pub quiet-spec : {M : Type 1} → statement M
+quiet-spec = tie.close (tie.spec later-requires tick-requires returns)

@@ -1,0 +1,158 @@
+// The station's calls for C, on a state and answers that hold numbers only. include/flnet_station.h declares them. The station list is lent
+// as arrays, so that a call that leaves it alone does not copy it.
+mod ask;
+mod hear;
+mod whole;
+
+use boundary::Core;
+use boundary::Outcome;
+use boundary::Shown;
+use station::Settings;
+ghost use mathlib.Core.Path.{_≡_};
+ghost use Rattle.boundary.specs.Crossing.{coreOf, stationIn, figureIn};
+ghost use Rattle.boundary.specs.Numbers.{switchedAnswer, tickedAnswer, heardAnswer, askedAnswer, figureNumbers};
+ghost use Rattle.lists.specs.Lists.{membersIn};
+ghost use Rattle.members.specs.Members.{noMembers};
+ghost use Rattle.station.specs.Asking.{askOf};
+ghost use Rattle.station.specs.Hearing.{hearOf};
+ghost use Rattle.station.specs.Starting.{startOf, stopOf};
+ghost use Rattle.station.specs.State.{never};
+ghost use Rattle.station.specs.Ticking.{tickOf};
+
+// A station that was never started: its state, and its list, which is empty.
+#[no_mangle]
+pub extern "C" fn flnet_new(
+    listed: &mut [bool; 256],
+    areas: &mut [u16; 1024],
+    watch: &mut [u8; 256],
+    misses: &mut [u8; 256],
+) -> Core
+    ensures { λ r. ⌜ r ≡ coreOf never ⌝ }
+    ensures { λ _. ⌜ membersIn (now (listed .exit)) (now (areas .exit)) (now (watch .exit)) (now (misses .exit)) ≡ noMembers ⌝ }
+{
+    lists::write(members::no_members(), listed, areas, watch, misses);
+    boundary::outer(states::never())
+}
+
+#[no_mangle]
+pub extern "C" fn flnet_start(
+    core: Core,
+    listed: &mut [bool; 256],
+    areas: &mut [u16; 1024],
+    watch: &mut [u8; 256],
+    misses: &mut [u8; 256],
+    own: Settings,
+) -> Outcome
+    ensures { λ r. ⌜ r .core ≡ coreOf (startOf (stationIn core (now (listed .entry)) (now (areas .entry)) (now (watch .entry)) (now (misses .entry))) own .station) ⌝ }
+    ensures { λ r. ⌜ r .answer ≡ switchedAnswer (startOf (stationIn core (now (listed .entry)) (now (areas .entry)) (now (watch .entry)) (now (misses .entry))) own .answer) ⌝ }
+    ensures { λ _. ⌜ membersIn (now (listed .exit)) (now (areas .exit)) (now (watch .exit)) (now (misses .exit)) ≡ startOf (stationIn core (now (listed .entry)) (now (areas .entry)) (now (watch .entry)) (now (misses .entry))) own .station .members ⌝ }
+{
+    let station = whole::station_of(core, listed, areas, watch, misses);
+    let after = starting::start(station, own);
+    let answer = after.answer;
+    let station = after.station;
+    whole::keep(
+        station,
+        boundary::switched_answer(answer),
+        listed,
+        areas,
+        watch,
+        misses,
+    )
+}
+
+#[no_mangle]
+pub extern "C" fn flnet_stop(
+    core: Core,
+    listed: &mut [bool; 256],
+    areas: &mut [u16; 1024],
+    watch: &mut [u8; 256],
+    misses: &mut [u8; 256],
+) -> Outcome
+    ensures { λ r. ⌜ r .core ≡ coreOf (stopOf (stationIn core (now (listed .entry)) (now (areas .entry)) (now (watch .entry)) (now (misses .entry))) .station) ⌝ }
+    ensures { λ r. ⌜ r .answer ≡ switchedAnswer (stopOf (stationIn core (now (listed .entry)) (now (areas .entry)) (now (watch .entry)) (now (misses .entry))) .answer) ⌝ }
+    ensures { λ _. ⌜ membersIn (now (listed .exit)) (now (areas .exit)) (now (watch .exit)) (now (misses .exit)) ≡ stopOf (stationIn core (now (listed .entry)) (now (areas .entry)) (now (watch .entry)) (now (misses .entry))) .station .members ⌝ }
+{
+    let station = whole::station_of(core, listed, areas, watch, misses);
+    let after = starting::stop(station);
+    let answer = after.answer;
+    let station = after.station;
+    whole::keep(
+        station,
+        boundary::switched_answer(answer),
+        listed,
+        areas,
+        watch,
+        misses,
+    )
+}
+
+#[no_mangle]
+pub extern "C" fn flnet_tick(
+    core: Core,
+    listed: &mut [bool; 256],
+    areas: &mut [u16; 1024],
+    watch: &mut [u8; 256],
+    misses: &mut [u8; 256],
+) -> Outcome
+    ensures { λ r. ⌜ r .core ≡ coreOf (tickOf (stationIn core (now (listed .entry)) (now (areas .entry)) (now (watch .entry)) (now (misses .entry))) .station) ⌝ }
+    ensures { λ r. ⌜ r .answer ≡ tickedAnswer (tickOf (stationIn core (now (listed .entry)) (now (areas .entry)) (now (watch .entry)) (now (misses .entry))) .answer) ⌝ }
+    ensures { λ _. ⌜ membersIn (now (listed .exit)) (now (areas .exit)) (now (watch .exit)) (now (misses .exit)) ≡ tickOf (stationIn core (now (listed .entry)) (now (areas .entry)) (now (watch .entry)) (now (misses .entry))) .station .members ⌝ }
+{
+    if boundary::is_quiet(core) {
+        return Outcome {
+            core: boundary::quiet(core),
+            answer: boundary::done(),
+        };
+    }
+    whole::tick(core, listed, areas, watch, misses)
+}
+
+#[no_mangle]
+pub extern "C" fn flnet_hear(
+    core: Core,
+    listed: &mut [bool; 256],
+    areas: &mut [u16; 1024],
+    watch: &mut [u8; 256],
+    misses: &mut [u8; 256],
+    octets: &[u8],
+    memory: &mut [u8],
+    assembly: &mut [u8],
+) -> Outcome
+    ensures { λ r. ⌜ r .core ≡ coreOf (hearOf (stationIn core (now (listed .entry)) (now (areas .entry)) (now (watch .entry)) (now (misses .entry))) (now (octets .entry)) (now (memory .entry)) (now (assembly .entry)) .station) ⌝ }
+    ensures { λ r. ⌜ r .answer ≡ heardAnswer (hearOf (stationIn core (now (listed .entry)) (now (areas .entry)) (now (watch .entry)) (now (misses .entry))) (now (octets .entry)) (now (memory .entry)) (now (assembly .entry)) .answer) ⌝ }
+    ensures { λ _. ⌜ now (memory .exit) ≡ hearOf (stationIn core (now (listed .entry)) (now (areas .entry)) (now (watch .entry)) (now (misses .entry))) (now (octets .entry)) (now (memory .entry)) (now (assembly .entry)) .memory ⌝ }
+    ensures { λ _. ⌜ now (assembly .exit) ≡ hearOf (stationIn core (now (listed .entry)) (now (areas .entry)) (now (watch .entry)) (now (misses .entry))) (now (octets .entry)) (now (memory .entry)) (now (assembly .entry)) .assembly ⌝ }
+    ensures { λ _. ⌜ membersIn (now (listed .exit)) (now (areas .exit)) (now (watch .exit)) (now (misses .exit)) ≡ hearOf (stationIn core (now (listed .entry)) (now (areas .entry)) (now (watch .entry)) (now (misses .entry))) (now (octets .entry)) (now (memory .entry)) (now (assembly .entry)) .station .members ⌝ }
+{
+    hear::hear(core, listed, areas, watch, misses, octets, memory, assembly)
+}
+
+#[no_mangle]
+pub extern "C" fn flnet_ask(
+    core: Core,
+    listed: &mut [bool; 256],
+    areas: &mut [u16; 1024],
+    watch: &mut [u8; 256],
+    misses: &mut [u8; 256],
+    memory: &[u8],
+    turn: &mut [u8],
+    output: &mut [u8],
+) -> Outcome
+    ensures { λ r. ⌜ r .core ≡ coreOf (askOf (stationIn core (now (listed .entry)) (now (areas .entry)) (now (watch .entry)) (now (misses .entry))) (now (memory .entry)) (now (turn .entry)) (now (output .entry)) .station) ⌝ }
+    ensures { λ r. ⌜ r .answer ≡ askedAnswer (askOf (stationIn core (now (listed .entry)) (now (areas .entry)) (now (watch .entry)) (now (misses .entry))) (now (memory .entry)) (now (turn .entry)) (now (output .entry)) .answer) ⌝ }
+    ensures { λ _. ⌜ now (turn .exit) ≡ askOf (stationIn core (now (listed .entry)) (now (areas .entry)) (now (watch .entry)) (now (misses .entry))) (now (memory .entry)) (now (turn .entry)) (now (output .entry)) .turn ⌝ }
+    ensures { λ _. ⌜ now (output .exit) ≡ askOf (stationIn core (now (listed .entry)) (now (areas .entry)) (now (watch .entry)) (now (misses .entry))) (now (memory .entry)) (now (turn .entry)) (now (output .entry)) .output ⌝ }
+    ensures { λ _. ⌜ membersIn (now (listed .exit)) (now (areas .exit)) (now (watch .exit)) (now (misses .exit)) ≡ askOf (stationIn core (now (listed .entry)) (now (areas .entry)) (now (watch .entry)) (now (misses .entry))) (now (memory .entry)) (now (turn .entry)) (now (output .entry)) .station .members ⌝ }
+{
+    ask::ask(core, listed, areas, watch, misses, memory, turn, output)
+}
+
+// What the front panel shows. The list does not matter to it.
+#[no_mangle]
+pub extern "C" fn flnet_show(core: Core) -> Shown
+    ensures { λ r. ⌜ r ≡ figureNumbers (figureIn core) ⌝ }
+{
+    let panel = core.panel;
+    boundary::figure_shown(states::figure_in(boundary::phase_of(core.phase), panel))
+}

@@ -1,0 +1,6 @@
+-- The definitions of this crate.
+pub mod Lists
+-- Theorems.
+pub mod Laws
+pub mod Storing
+pub mod Search

@@ -1,0 +1,129 @@
+// The station list in arrays of numbers, which a host can lend and a call can change in place. A number's flag, watch time and misses stand
+// at the number's place, its areas in the four places from four times the number on.
+mod search;
+
+use area::Areas;
+use area::Part;
+use members::Entry;
+use members::Members;
+pub use search::next_after;
+use units::Milliseconds;
+ghost use mathlib.Core.Path.{_≡_};
+ghost use mathlib.Core.Bool.{false};
+ghost use lib.ListN.{getD, set};
+ghost use Rattle.members.specs.Members.{entryOf, withEntry};
+ghost use Rattle.lists.specs.Lists.{membersIn, Whole};
+
+pub fn is_listed(listed: &[bool; 256], number: u8) -> bool
+    ensures { λ r. ⌜ r ≡ getD (now (listed .entry)) number false ⌝ }
+{
+    listed[number as usize]
+}
+
+pub fn entry_at(
+    listed: &[bool; 256],
+    areas: &[u16; 1024],
+    watch: &[u8; 256],
+    misses: &[u8; 256],
+    number: u8,
+) -> Entry
+    ensures { λ r. ⌜ r ≡ entryOf (membersIn (now (listed .entry)) (now (areas .entry)) (now (watch .entry)) (now (misses .entry))) number ⌝ }
+{
+    let place = number as usize;
+    let start = 4 * place;
+    Entry {
+        listed: listed[place],
+        areas: Areas {
+            one: Part {
+                address: areas[start],
+                size: areas[start + 1],
+            },
+            two: Part {
+                address: areas[start + 2],
+                size: areas[start + 3],
+            },
+        },
+        watch: Milliseconds(watch[place]),
+        misses: misses[place],
+    }
+}
+
+pub fn clear(misses: &mut [u8; 256], number: u8)
+    ensures { λ _. ⌜ now (misses .exit) ≡ set (now (misses .entry)) number 0 ⌝ }
+{
+    misses[number as usize] = 0;
+}
+
+// Stores an entry. Slices, since a proof is told the length of a slice, and not of an array behind a reference.
+fn store(
+    entry: Entry,
+    number: u8,
+    listed: &mut [bool],
+    areas: &mut [u16],
+    watch: &mut [u8],
+    misses: &mut [u8],
+)
+    requires { ⌜ Whole (now listed) (now areas) (now watch) (now misses) ⌝ }
+    ensures { λ _. ⌜ membersIn (now (listed .exit)) (now (areas .exit)) (now (watch .exit)) (now (misses .exit)) ≡ withEntry (membersIn (now (listed .entry)) (now (areas .entry)) (now (watch .entry)) (now (misses .entry))) number entry ⌝ }
+{
+    let place = number as usize;
+    let start = 4 * place;
+    listed[place] = entry.listed;
+    areas[start] = entry.areas.one.address;
+    areas[start + 1] = entry.areas.one.size;
+    areas[start + 2] = entry.areas.two.address;
+    areas[start + 3] = entry.areas.two.size;
+    watch[place] = entry.watch.0;
+    misses[place] = entry.misses;
+}
+
+pub fn put(
+    entry: Entry,
+    number: u8,
+    listed: &mut [bool; 256],
+    areas: &mut [u16; 1024],
+    watch: &mut [u8; 256],
+    misses: &mut [u8; 256],
+)
+    ensures { λ _. ⌜ membersIn (now (listed .exit)) (now (areas .exit)) (now (watch .exit)) (now (misses .exit)) ≡ withEntry (membersIn (now (listed .entry)) (now (areas .entry)) (now (watch .entry)) (now (misses .entry))) number entry ⌝ }
+{
+    store(entry, number, listed, areas, watch, misses);
+}
+
+// The list as one value.
+pub fn members_of(
+    listed: &[bool; 256],
+    areas: &[u16; 1024],
+    watch: &[u8; 256],
+    misses: &[u8; 256],
+) -> Members
+    ensures { λ r. ⌜ r ≡ membersIn (now (listed .entry)) (now (areas .entry)) (now (watch .entry)) (now (misses .entry)) ⌝ }
+{
+    let none = members::no_members();
+    let mut entries = none.entries;
+    let mut number: usize = 0;
+    while number < 256 {
+        entries[number] = entry_at(listed, areas, watch, misses, number as u8);
+        number += 1;
+    }
+    Members { entries }
+}
+
+// Writes a list over what the arrays held.
+pub fn write(
+    members: Members,
+    listed: &mut [bool; 256],
+    areas: &mut [u16; 1024],
+    watch: &mut [u8; 256],
+    misses: &mut [u8; 256],
+)
+    ensures { λ _. ⌜ membersIn (now (listed .exit)) (now (areas .exit)) (now (watch .exit)) (now (misses .exit)) ≡ members ⌝ }
+{
+    let entries = members.entries;
+    let mut number: usize = 0;
+    while number < 256 {
+        let entry = entries[number];
+        put(entry, number as u8, listed, areas, watch, misses);
+        number += 1;
+    }
+}

@@ -1,0 +1,35 @@
+// Next, by the flags.
+ghost use mathlib.Core.Path.{_≡_};
+ghost use Prim.Native.Nat.{_≤_, min};
+ghost use Rattle.members.specs.Search.{firstFrom, numberOr};
+ghost use Rattle.lists.specs.Lists.{flagged, nextIn};
+
+// The first listed number from `from` on and below `end`, or `end` where there is none.
+fn first_listed(listed: &[bool; 256], from: usize, end: usize) -> usize
+    requires { ⌜ end ≤ 256 ⌝ }
+    ensures { λ r. ⌜ r ≡ min end (numberOr end (firstFrom from (flagged (now (listed .entry))))) ⌝ }
+{
+    let mut number = from;
+    while number < end {
+        if listed[number] {
+            return number;
+        }
+        number += 1;
+    }
+    end
+}
+
+// "'Next' is the next larger number in the list with ours, or the smallest after the largest."
+pub fn next_after(ours: u8, listed: &[bool; 256], number: u8) -> u8
+    ensures { λ r. ⌜ r ≡ nextIn ours (now (listed .entry)) number ⌝ }
+{
+    let above = number as usize + 1;
+    if number < ours {
+        return first_listed(listed, above, ours as usize) as u8;
+    }
+    let larger = first_listed(listed, above, 256);
+    if larger < 256 {
+        return larger as u8;
+    }
+    first_listed(listed, 0, ours as usize) as u8
+}

@@ -1,0 +1,208 @@
+//! A call with the states around it, and which steps are of note.
+
+use crate::boundary::{Answer, Station};
+use crate::call::Call;
+use crate::model::frame::at;
+use crate::model::waits;
+use crate::names::*;
+
+/// A call with the states around it.
+pub struct Step<'a> {
+    pub before: &'a Station,
+    pub call: &'a Call,
+    pub answer: &'a Answer,
+    pub after: &'a Station,
+}
+
+impl Step<'_> {
+    fn goes(&self, from: u8, to: u8) -> bool {
+        self.before.core.phase == from && self.after.core.phase == to
+    }
+
+    fn stays(&self) -> bool {
+        self.goes(PARTICIPATING, PARTICIPATING)
+    }
+
+    pub fn ticks(&self) -> bool {
+        matches!(self.call, Call::Tick)
+    }
+
+    fn asks(&self) -> bool {
+        matches!(self.call, Call::Ask { .. }) && self.answer.word == WORD_FRAME
+    }
+
+    /// The source of a frame that was heard and not refused.
+    fn heard(&self) -> Option<(u8, &[u8])> {
+        match self.call {
+            Call::Hear { octets, .. } if self.answer.word != WORD_REFUSED => {
+                Some((octets[at::SNA], octets))
+            }
+            _ => None,
+        }
+    }
+
+    fn heard_done(&self) -> Option<u8> {
+        self.heard()
+            .filter(|_| self.answer.word == WORD_DONE)
+            .map(|(source, _)| source)
+    }
+
+    fn held(&self) -> bool {
+        self.before.core.view == self.before.core.own.number
+    }
+
+    fn holds(&self) -> bool {
+        self.after.core.view == self.after.core.own.number
+    }
+
+    fn written(&self) -> bool {
+        self.answer.word == WORD_CYCLIC && self.answer.data == WRITTEN
+    }
+
+    fn strikes(&self) -> bool {
+        let view = self.before.core.view;
+        self.stays()
+            && self.ticks()
+            && self.before.list.entry(view).listed
+            && !self.after.list.entry(view).listed
+    }
+
+    fn drops_gathered(&self) -> bool {
+        self.before.core.gathering.blocks > 0 && self.after.core.gathering.blocks == 0
+    }
+
+    fn ends_watch(&self) -> bool {
+        self.stays() && self.ticks() && self.after.core.elapsed == 0
+    }
+
+    /// A source that brought areas and is listed without.
+    fn crowded(&self) -> bool {
+        self.heard().is_some_and(|(source, octets)| {
+            let areas = self.after.list.entry(source).areas;
+            let empty = areas.one.size == 0 && areas.two.size == 0;
+            let brought = octets[at::C_SZ1..at::C_AD2] != [0, 0]
+                || octets[at::C_SZ2..at::C_SZ2 + 2] != [0, 0];
+            self.after.list.entry(source).listed
+                && empty
+                && brought
+                && self.before.list != self.after.list
+        })
+    }
+
+    fn gap_becomes(&self, gap: u32) -> bool {
+        self.after.core.panel.takings == 2
+            && self.after.core.panel.gap == gap
+            && self.before.core.panel.running >= gap - 1
+    }
+}
+
+pub type Noted = (&'static str, fn(&Step) -> bool);
+
+pub const NOTED: [Noted; 36] = [
+    ("trigger sent", |s| s.goes(LISTENING, STARTUP) && s.asks()),
+    ("trigger heard in listening", |s| {
+        s.goes(LISTENING, STARTUP) && !s.asks()
+    }),
+    ("trigger heard while ours is due", |s| {
+        s.goes(LISTENING, STARTUP)
+            && !s.asks()
+            && s.before.core.elapsed == waits::until_trigger(s.before.core.own.number)
+    }),
+    ("token heard in listening", |s| s.goes(LISTENING, JOINING)),
+    ("token heard while our trigger is due", |s| {
+        s.goes(LISTENING, JOINING)
+            && s.before.core.elapsed == waits::until_trigger(s.before.core.own.number)
+    }),
+    ("token heard in ring startup", |s| s.goes(STARTUP, JOINING)),
+    ("ring startup ends with nobody else", |s| {
+        s.goes(STARTUP, LISTENING)
+    }),
+    ("ring startup ends, our request sent", |s| {
+        s.goes(STARTUP, PARTICIPATING) && s.before.core.sent
+    }),
+    ("ring startup ends, our request lapses", |s| {
+        s.goes(STARTUP, PARTICIPATING) && !s.before.core.sent
+    }),
+    ("joining ends for want of a token", |s| {
+        s.goes(JOINING, LISTENING)
+    }),
+    ("joining ends, our number in view", |s| {
+        s.goes(JOINING, PARTICIPATING) && s.holds()
+    }),
+    ("joining ends, a stranger in view", |s| {
+        s.goes(JOINING, PARTICIPATING)
+            && !s.holds()
+            && !s.after.list.entry(s.after.core.view).listed
+    }),
+    ("third round ends", |s| {
+        s.goes(JOINING, JOINING) && s.before.core.rounds == 2 && s.after.core.rounds == 3
+    }),
+    ("cyclic frame after the third round", |s| {
+        s.goes(JOINING, JOINING) && s.before.core.rounds == 3 && s.heard().is_some()
+    }),
+    ("our sizes become 0", |s| {
+        s.ticks() && s.before.core.own.areas != s.after.core.own.areas
+    }),
+    ("listed without areas for an overlap", |s| s.crowded()),
+    ("listed again by a participant", |s| {
+        s.stays()
+            && s.heard_done()
+                .is_some_and(|source| s.before.list.entry(source).listed)
+    }),
+    ("listed again, gathered dropped", |s| {
+        s.stays() && s.heard_done().is_some() && s.drops_gathered()
+    }),
+    ("listed anew by a participant", |s| {
+        s.stays()
+            && s.heard_done().is_some_and(|source| {
+                !s.before.list.entry(source).listed && s.after.list.entry(source).listed
+            })
+    }),
+    ("misses cleared by a cyclic frame", |s| {
+        s.answer.word == WORD_CYCLIC
+            && s.heard()
+                .is_some_and(|(source, _)| s.before.list.entry(source).misses > 0)
+    }),
+    ("struck", |s| s.strikes()),
+    ("struck, gathered dropped", |s| {
+        s.strikes() && s.drops_gathered()
+    }),
+    ("watch ends, a stranger in view", |s| {
+        s.ends_watch() && !s.held() && !s.before.list.entry(s.before.core.view).listed
+    }),
+    ("watch ends, token taken", |s| {
+        s.ends_watch() && !s.held() && s.holds()
+    }),
+    ("watch ends, token given up", |s| {
+        s.ends_watch() && s.held() && !s.holds()
+    }),
+    ("watch ends, alone", |s| {
+        s.ends_watch() && s.held() && s.holds()
+    }),
+    ("divided turn written", |s| {
+        s.written() && s.before.core.gathering.blocks > 0
+    }),
+    ("turn of 17 blocks written", |s| {
+        s.written() && s.before.core.gathering.blocks == 16
+    }),
+    ("block 1 in the midst of a turn", |s| {
+        s.before.core.gathering.blocks > 0 && s.after.core.gathering.blocks == 1
+    }),
+    ("gathered dropped by a cyclic frame", |s| {
+        s.drops_gathered() && s.answer.word == WORD_CYCLIC && s.answer.data == DROPPED
+    }),
+    ("our divided turn sent", |s| {
+        s.asks() && s.before.core.block > 0 && s.after.core.block == 0
+    }),
+    ("our turn of 17 blocks sent", |s| {
+        s.asks() && s.before.core.block == 16 && s.after.core.block == 0
+    }),
+    ("token lost between our blocks", |s| {
+        s.before.core.block > 0 && s.after.core.phase == PARTICIPATING && !s.asks() && !s.holds()
+    }),
+    ("our pass to ourselves", |s| {
+        s.stays() && s.asks() && s.holds() && s.after.core.block == 0
+    }),
+    ("gap of 65,535", |s| s.gap_becomes(65_535)),
+    ("gap over", |s| s.gap_becomes(65_536)),
+];

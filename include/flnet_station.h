@@ -1,0 +1,212 @@
+/*
+ * The proved FL-net station, for C.
+ *
+ * A station is a core, which every call takes by value and gives back changed, and a list, which is lent to the call and changed in place.
+ * The caller keeps both and hands them to the next call. No call waits, allocates or keeps a pointer; any core, any list, any octets and any
+ * lengths are answered.
+ *
+ * A lent buffer is a pointer and a number of octets. The pointer is never null, not even for 0 octets, and nothing that is lent to one call
+ * overlaps. What each call leaves in it is said beside it; a refused call leaves everything as it was, but for number 6 before we participate.
+ */
+#ifndef FLNET_STATION_H
+#define FLNET_STATION_H
+
+#include <stdbool.h>
+#include <stddef.h>
+#include <stdint.h>
+
+#ifdef __cplusplus
+extern "C" {
+#else
+#include <assert.h>
+#endif
+
+/* Octets of the common memory, and of the assembly and turn buffers. */
+#define FLNET_MEMORY_OCTETS 17408
+/* The fewest octets of an output buffer: the longest frame that a station writes. */
+#define FLNET_OUTPUT_OCTETS 1088
+/* Ticks in a millisecond: a tick is 100 microseconds. */
+#define FLNET_TICKS_IN_MILLISECOND 10
+
+/* Phases of a station. Any other number counts as off, and comes back as 0. */
+#define FLNET_PHASE_OFF 0
+#define FLNET_PHASE_LISTENING 1
+#define FLNET_PHASE_STARTUP 2
+#define FLNET_PHASE_JOINING 3
+#define FLNET_PHASE_PARTICIPATING 4
+
+/* The word of an answer. */
+#define FLNET_OFF 0     /* a tick or a frame at a station that is off */
+#define FLNET_DONE 1    /* started, stopped, a tick counted, a request or a trigger heard */
+#define FLNET_CYCLIC 2  /* a cyclic frame heard: see token and data */
+#define FLNET_FRAME 3   /* a frame written: see octets */
+#define FLNET_REFUSED 4 /* refused: see refusal */
+
+/* Why a call is refused. Of several, the first in the order 11, 10, 1 to 9. */
+#define FLNET_CUT 1      /* fewer than 64 or more than 1120 octets given */
+#define FLNET_MARK 2     /* not a frame of FL-net */
+#define FLNET_LENGTH 3   /* the frame's length field is not the number of octets given */
+#define FLNET_CODE 4     /* a transaction code that the station does not handle */
+#define FLNET_ADDRESS 5  /* a number that is no station's, or a watch time of 0 at start */
+#define FLNET_TAKEN 6    /* a frame with our own number as its source; turns the station off unless it participates */
+#define FLNET_AREA 7     /* an area leaves its range */
+#define FLNET_BLOCK 8    /* block numbers or lengths that the areas do not give */
+#define FLNET_STRANGER 9 /* a cyclic frame from, or a token to, a station that is not listed */
+#define FLNET_NOT_DUE 10 /* no frame is due; a start when not off; a stop when off */
+#define FLNET_BUFFER 11  /* a lent buffer has the wrong number of octets */
+
+/* What became of the token. */
+#define FLNET_TOKEN_NONE 0
+#define FLNET_TOKEN_PASSED_ON 1
+#define FLNET_TOKEN_OURS_NOW 2
+#define FLNET_TOKEN_RIVAL_PASSED_OVER 3
+#define FLNET_TOKEN_RIVAL_WON 4
+
+/* What became of a cyclic frame's data. */
+#define FLNET_DATA_KEPT 0    /* as a block, in the assembly buffer */
+#define FLNET_DATA_WRITTEN 1 /* the whole turn, to the common memory */
+#define FLNET_DATA_DROPPED 2
+
+/* What the panel shows. */
+#define FLNET_PANEL_NOTHING 0 /* "--": fewer than two takings of the token, or not participating */
+#define FLNET_PANEL_OVER 1    /* "OVER": a gap above 65,535 ticks */
+#define FLNET_PANEL_GAP 2     /* the gap in milliseconds, with tenths */
+
+/* What a station has of one area of the common memory, in words of two octets. */
+typedef struct {
+    uint16_t address;
+    uint16_t size;
+} flnet_part;
+
+/* Area 1 has 512 words, area 2 has 8192. */
+typedef struct {
+    flnet_part one;
+    flnet_part two;
+} flnet_areas;
+
+/* What a station is started with. */
+typedef struct {
+    uint8_t number; /* 1 to 254 */
+    flnet_areas areas;
+    uint8_t watch; /* the watch time, 1 to 255 milliseconds */
+} flnet_settings;
+
+/*
+ * The station list. What is known of a station stands at its number; our own is never listed. All zeros is an empty list, and what is not
+ * listed is all zeros.
+ */
+typedef struct {
+    bool listed[256];
+    uint16_t areas[1024]; /* four for each station: address and size in area 1, address and size in area 2 */
+    uint8_t watch[256];   /* watch times in milliseconds */
+    uint8_t misses[256];  /* in a row, 0 to 2 */
+} flnet_list;
+
+/* What has been put together of a turn. All zeros: nothing. */
+typedef struct {
+    uint8_t source;
+    uint8_t blocks;
+} flnet_gathering;
+
+typedef struct {
+    uint8_t takings;  /* of the token since we began to participate; 2 stands for more */
+    uint32_t running; /* ticks since the last taking, before the first since we began to participate; 65,536 stands for more */
+    uint32_t gap;     /* what running was at the last taking */
+} flnet_panel;
+
+/*
+ * The state of a station but for its list, for the host to keep and to read. What a phase does not use is 0 in it. All zeros is a station
+ * that was never started.
+ */
+typedef struct {
+    uint8_t phase;
+    flnet_settings own; /* off: only the number last started with */
+    uint32_t elapsed;   /* ticks since listening or ring startup began (listening stops counting when its trigger is due), in joining since
+                           the last token frame, as a participant since the watch restarted */
+    uint32_t waited;    /* joining: ticks since the third round ended, until our request is due */
+    uint8_t rounds;     /* joining: rounds that have ended, at most 3 */
+    bool sent;          /* ring startup: our request has been sent */
+    uint8_t view;       /* participating: the number taken to be the holder; joining: the last token destination heard */
+    uint8_t block;      /* participating: blocks of our turn that have been sent */
+    flnet_gathering gathering;
+    flnet_panel panel;
+} flnet_core;
+
+/* A station as a host keeps it. */
+typedef struct {
+    flnet_core core;
+    flnet_list list;
+} flnet_station;
+
+/* The list of a flnet_station, as the calls take it. */
+#define FLNET_LIST(station) (station).list.listed, (station).list.areas, (station).list.watch, (station).list.misses
+
+/* What a call answers. A field that the word does not point to is 0. */
+typedef struct {
+    uint8_t word;
+    uint8_t refusal;
+    uint8_t token;
+    uint8_t data;
+    size_t octets; /* of the frame that was written */
+} flnet_answer;
+
+/* A call's result: the core after it, and the answer. */
+typedef struct {
+    flnet_core core;
+    flnet_answer answer;
+} flnet_result;
+
+/* What the panel shows, and its text in ASCII with zeros behind it. */
+typedef struct {
+    uint8_t kind;
+    uint16_t ticks; /* of a gap, else 0 */
+    uint8_t octets[6];
+    size_t length; /* of the text */
+} flnet_figure;
+
+/* A station that was never started: its core, and the list, which is emptied. */
+flnet_core flnet_new(bool *listed, uint16_t *areas, uint8_t *watch, uint8_t *misses);
+
+/* Starts an off station: done, or refused with 10, 5 or 7. */
+flnet_result flnet_start(flnet_core core, bool *listed, uint16_t *areas, uint8_t *watch, uint8_t *misses, flnet_settings own);
+
+/* Stops a station that is not off: done, or refused with 10. */
+flnet_result flnet_stop(flnet_core core, bool *listed, uint16_t *areas, uint8_t *watch, uint8_t *misses);
+
+/* Every 100 microseconds: off or done. */
+flnet_result flnet_tick(flnet_core core, bool *listed, uint16_t *areas, uint8_t *watch, uint8_t *misses);
+
+/*
+ * A frame from the wire: off, done, cyclic, or refused with any number but 10. A finished turn is written to its source's areas of the
+ * common memory. A block that is kept or finishes a turn is stored in the assembly buffer, which the host lends again as it was left.
+ */
+flnet_result flnet_hear(flnet_core core, bool *listed, uint16_t *areas, uint8_t *watch, uint8_t *misses, const uint8_t *octets, size_t octets_length,
+                        uint8_t *memory, size_t memory_length, uint8_t *assembly, size_t assembly_length);
+
+/*
+ * Asks for the frame that is due: frame, or refused with 11 or 10. The frame stands at the front of the output. At the first block of a
+ * turn our areas are copied from the common memory to the front of the turn buffer, which the host lends again as it was left.
+ */
+flnet_result flnet_ask(flnet_core core, bool *listed, uint16_t *areas, uint8_t *watch, uint8_t *misses, const uint8_t *memory, size_t memory_length,
+                       uint8_t *turn, size_t turn_length, uint8_t *output, size_t output_length);
+
+/* What the front panel shows. */
+flnet_figure flnet_show(flnet_core core);
+
+#ifndef __cplusplus
+static_assert(sizeof(flnet_part) == 4, "flnet_part");
+static_assert(sizeof(flnet_areas) == 8, "flnet_areas");
+static_assert(sizeof(flnet_settings) == 12, "flnet_settings");
+static_assert(sizeof(flnet_list) == 2816, "flnet_list");
+static_assert(sizeof(flnet_gathering) == 2, "flnet_gathering");
+static_assert(sizeof(flnet_panel) == 12, "flnet_panel");
+static_assert(sizeof(flnet_core) == 44, "flnet_core");
+static_assert(sizeof(flnet_station) == 2860, "flnet_station");
+static_assert(sizeof(flnet_answer) == 16, "flnet_answer");
+static_assert(sizeof(flnet_result) == 64, "flnet_result");
+static_assert(sizeof(flnet_figure) == 24, "flnet_figure");
+#else
+}
+#endif
+
+#endif
