@@ -6,7 +6,8 @@
  * lengths are answered.
  *
  * A lent buffer is a pointer and a number of octets. The pointer is never null, not even for 0 octets, and nothing that is lent to one call
- * overlaps. What each call leaves in it is said beside it; a refused call leaves everything as it was, but for number 6 before we participate.
+ * overlaps. Each bool of a core or a list is true or false, as C keeps it. What each call leaves in a buffer is said beside it; a refused call
+ * leaves everything as it was, but for number 6 before we participate.
  */
 #ifndef FLNET_STATION_H
 #define FLNET_STATION_H

@@ -1,7 +1,6 @@
 -- The answers as numbers. Refusals, outcomes and phases have the numbers of paper 01; the words of an answer and the kinds of figure are
 -- numbered here.
 use Prim.Native.Nat.{ℕ}
-use mathlib.Core.Path.{_≡_, refl}
 use Rattle.frame.specs.Refusals.{numberOf}
 use Rattle.frame.specs.declared.Refusal.{Refusal}
 use Rattle.panel.specs.Panel.{shown}

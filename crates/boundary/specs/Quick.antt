@@ -1,8 +1,9 @@
 -- A participant's calls on its core, where the list is left as it is but for one station's misses; and that they are the calls of its station.
+-- A core's phase is a number, and 4 is that of participating.
 use Prim.Native.Nat.{ℕ, _+_}
 use mathlib.Core.Bool.{Bool, true, false, cond, not, _&&_, _||_}
 use mathlib.Core.List.{List}
-use mathlib.Core.Path.{_≡_, refl, ap, _∙_, sym}
+use mathlib.Core.Path.{_≡_, ap, _∙_}
 use lib.Dec.{eqb, leb}
 use lib.ListN.{length, drop}
 use native.Mathlib.Omega.{arith}
