@@ -1,12 +1,12 @@
 -- Laws of putting one list into another. Assumes nothing.
 use mathlib.Core.Path.{_≡_, _∙_, ap, ap₂, sym}
 use mathlib.Core.List.{List, [], _∷_, _++_, append-assoc}
-use Prim.Native.Nat.{ℕ, suc, _+_, _≤_, _<_}
+use Prim.Native.Nat.{ℕ, suc, _+_, _-_, _≤_, _<_}
 use native.Mathlib.Numerals.{add-one}
 use native.Mathlib.Nat.{zero-add, add-zero}
 use native.Mathlib.Omega.{arith}
 use lib.ListN.{length, take, drop, getD, set, take-append-drop, length-append, length-take, length-drop}
-use lib.Seq.{take-append-seam, drop-append-add, drop-drop, drop-cons, append-snoc, set-at, set-split, take-at}
+use lib.Seq.{take-append-seam, drop-append-add, drop-drop, drop-cons, append-snoc, set-at, set-split, take-at, take-add, length-take-le}
 use Rattle.copying.specs.Pasted.{pasted}
 
 pub paste-front : (d s : List ℕ) → pasted d 0 s ≡ s ++ drop (length s) d
@@ -60,3 +60,15 @@ paste-append d s t at h =
 -- nothing put in
 pub paste-nothing : (d : List ℕ) (at : ℕ) → pasted d at [] ≡ d
 paste-nothing d at = ap (λ (k : ℕ). take at d ++ drop k d) (add-zero at) ∙ take-append-drop at d
+
+-- a piece of a list right behind the pieces before it
+pub paste-piece : (d s : List ℕ) (at from to : ℕ) → from ≤ to → to ≤ length s → at + length s ≤ length d
+    → pasted (pasted d at (take from s)) (at + from) (take (to - from) (drop from s)) ≡ pasted d at (take to s)
+paste-piece d s at from to h k room =
+    let front : length (take from s) ≡ from = length-take-le from s (omega arith) in
+    let piece = take (to - from) (drop from s) in
+    let end : from + (to - from) ≡ to = omega arith in
+    ap (λ (n : ℕ). pasted (pasted d at (take from s)) (at + n) piece) (sym front)
+    ∙ paste-append d (take from s) piece at (omega (arith, front))
+    ∙ ap (λ (l : List ℕ). pasted d at l) (sym (take-add from (to - from) s))
+    ∙ ap (λ (n : ℕ). pasted d at (take n s)) end
