@@ -33,7 +33,7 @@ ghost use Rattle.block.specs.Blocks.{startOf};
 ghost use Rattle.reading.specs.Reading.{dataSize};
 ghost use Rattle.station.specs.Asking.{isPlaced, dueIn, nextBlock, dueFields, turnAfter, blockSent, sentIn, lentRight, askOf};
 ghost use Rattle.station.specs.declared.Phase.the-variants.{Participating};
-ghost use Rattle.writing.specs.Writing.{wholeLength, outputOf};
+ghost use Rattle.writing.specs.Writing.{wholeLength, fixed, outputOf};
 
 // A call: the state after it, and the answer.
 pub struct Asking {
@@ -81,6 +81,35 @@ fn send_bare(station: Station, fields: Fields, output: &mut [u8]) -> Asking
     Asking { station, answer }
 }
 
+// Writes the frame of a block that has its data in front of `octets`: as `write` does, but without a struct in memory (`write_header`).
+fn write_block(fields: Fields, octets: &[u8], output: &mut [u8]) -> usize
+    requires { ⌜ fixed fields ≡ fields ⌝ }
+    requires { ⌜ dataSize fields ≡ fields .size ⌝ }
+    requires { ⌜ dataSize fields ≤ length (now octets) ⌝ }
+    requires { ⌜ wholeLength fields ≤ length (now output) ⌝ }
+    ensures { λ r. ⌜ r ≡ wholeLength fields ⌝ }
+    ensures { λ _. ⌜ now (output .exit) ≡ outputOf fields (now (octets .entry)) (now (output .entry)) ⌝ }
+{
+    let size = fields.size as usize;
+    let code = fields.code;
+    let areas = fields.areas;
+    let watch = fields.watch;
+    writing::write_header(
+        fields.length,
+        fields.source,
+        fields.destination,
+        code,
+        areas,
+        fields.block,
+        fields.blocks,
+        fields.size,
+        watch,
+        output,
+    );
+    copying::copy_into(&octets[0..size], output, 64);
+    64 + size
+}
+
 // The next block of our turn, to `next`: writes its frame, and answers the frame's length. The turn is copied at the first block.
 pub fn send_next(
     own: Settings,
@@ -101,7 +130,7 @@ pub fn send_next(
     let areas = own.areas;
     make_turn(areas, block, memory, turn);
     let start = 1024 * block as usize;
-    write(block_fields(own, block, next), &turn[start..], output)
+    write_block(block_fields(own, block, next), &turn[start..], output)
 }
 
 // The next block of our turn, to the station that the list has as next.

@@ -1,6 +1,6 @@
 -- Where the fields that the paper names stand in a frame, octet by octet, and which of these places a code fixes.
 use Prim.Native.Nat.{ℕ, zero, suc, _+_}
-use mathlib.Core.Bool.{Bool, true, false, cond, _||_}
+use mathlib.Core.Bool.{Bool, false, cond, _||_}
 use mathlib.Core.List.{List, [], _∷_, _++_, map}
 use lib.Dec.{eqb}
 use Rattle.frame.specs.Octets.{octetAt}

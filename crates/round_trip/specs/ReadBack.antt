@@ -4,8 +4,7 @@ use mathlib.Core.Bool.{Bool, true, false, cond, not, _&&_, _||_}
 use mathlib.Core.List.{List, _++_}
 use Prim.Native.Nat.{ℕ, _+_, _-_, _≤_}
 use native.Mathlib.Omega.{arith}
-use lib.Dec.{eqb, leb}
-use lib.ListN.{length, take, drop, length-append}
+use lib.ListN.{length, take, drop}
 use lib.Seq.{drop-at}
 use borrow.Author.Tests.{le-leb, eq-eqb}
 use Rattle.area.specs.Areas.{inRange}
@@ -20,11 +19,11 @@ use Rattle.frame.specs.declared.Code.the-variants.{Token, Cyclic, Request, Trig
 use Rattle.frame.specs.declared.Coded.the-variants.{Known}
 use Rattle.frame.specs.declared.Fields.{Fields}
 use Rattle.round_trip.specs.Accepted.{Accepted, reads}
-use Rattle.reading.specs.Reading.{whole, marked, fieldsOf, isStation, addressed, ranged, blocked, readOf, dataSize, dataOf}
+use Rattle.reading.specs.Reading.{whole, marked, fieldsOf, isStation, blocked, readOf, dataSize, dataOf}
 use Rattle.reading.specs.declared.Read.the-variants.{Frame}
 use Rattle.round_trip.specs.Digits.{word-back, long-back}
 use Rattle.writing.specs.Lengths.{length-header, length-frame}
-use Rattle.writing.specs.Writing.{fixedFor, fixed, headerOf, frameOf, wholeLength, everyone, noAreas}
+use Rattle.writing.specs.Writing.{fixedFor, fixed, headerOf, frameOf, everyone, noAreas}
 
 -- the fields that a station can send: numbers of stations, areas in range, and a block that the areas have
 pub record Sendable (fields : Fields) : Type 0 where

@@ -9,7 +9,7 @@ use lib.ListN.{length}
 use Rattle.area.specs.Areas.{inRange}
 use Rattle.block.specs.Blocks.{blocksOf, lengthOf}
 use Rattle.area.specs.declared.Areas.{Areas}
-use Rattle.frame.specs.Codes.{isCyclic, isToken, carriesAreas}
+use Rattle.frame.specs.Codes.{isCyclic, carriesAreas}
 use Rattle.frame.specs.declared.Code.the-variants.{Token, Cyclic}
 use Rattle.frame.specs.declared.Fields.{Fields}
 use Rattle.reading.specs.Reading.{isStation, readOf, dataSize}
@@ -31,6 +31,15 @@ block-cyclic false = refl
 block-areas : (test : Bool) → carriesAreas (cond test Token Cyclic) ≡ true
 block-areas true = refl
 block-areas false = refl
+
+-- a block's frame has the values that the code fixes, and carries as much data as the block is long
+module _ (source next : ℕ) (areas : Areas) (watch : Milliseconds) (block : ℕ) where
+  pub block-fixed : fixed (blockFields source next areas watch block) ≡ blockFields source next areas watch block
+  block-fixed =
+      fixed-cyclic (blockFields source next areas watch block) (block-cyclic (eqb block (blocksOf areas))) (block-areas (eqb block (blocksOf areas))) refl
+
+  pub block-size : dataSize (blockFields source next areas watch block) ≡ lengthOf areas block
+  block-size = ap (λ (test : Bool). cond test (lengthOf areas block) 0) (block-cyclic (eqb block (blocksOf areas)))
 
 -- a frame is read as its fields where these are as the code fixes them
 same-back : (fields : Fields) (block : List ℕ) → Sendable fields → dataSize fields ≤ length block → fixed fields ≡ fields → readOf (frameOf fields block) ≡ Frame fields
@@ -80,11 +89,8 @@ module _ (source : ℕ) (is-source : isStation source ≡ true) where
         size = λ e. refl;
       }
 
-      block-size : dataSize (blockFields source next areas watch block) ≡ lengthOf areas block
-      block-size = ap (λ (test : Bool). cond test (lengthOf areas block) 0) (block-cyclic (eqb block (blocksOf areas)))
-
       module _ (octets : List ℕ) (enough : lengthOf areas block ≤ length octets) where
         pub block-back : readOf (frameOf (blockFields source next areas watch block) octets) ≡ Frame (blockFields source next areas watch block)
         block-back =
-            same-back (blockFields source next areas watch block) octets block-sendable (rw block-size enough)
-            (fixed-cyclic (blockFields source next areas watch block) (block-cyclic (eqb block (blocksOf areas))) (block-areas (eqb block (blocksOf areas))) refl)
+            same-back (blockFields source next areas watch block) octets block-sendable (rw (block-size source next areas watch block) enough)
+            (block-fixed source next areas watch block)

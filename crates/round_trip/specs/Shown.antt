@@ -14,7 +14,7 @@ use Rattle.frame.specs.Octets.{longAt}
 use Rattle.frame.specs.Positions.{TFL}
 use Rattle.frame.specs.declared.Fields.{Fields}
 use Rattle.round_trip.specs.Accepted.{Accepted}
-use Rattle.reading.specs.Reading.{isStation, addressed, ranged, blocked}
+use Rattle.reading.specs.Reading.{isStation, blocked}
 
 -- the block fields of a cyclic frame
 pub record Blocked (given : ℕ) (fields : Fields) : Type 0 where

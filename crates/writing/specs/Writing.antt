@@ -1,7 +1,7 @@
 -- Paper 01, "Frame fields used": writing a frame. "We write 64-octet headers. .. A field that no rule here sets, and the destination outside
 -- code 65000, gets the value that clause 10.1 fixes for that frame, else 0."
 use Prim.Native.Nat.{ℕ, _+_, _/_, _%_}
-use mathlib.Core.Bool.{Bool, true, false, cond, _&&_}
+use mathlib.Core.Bool.{Bool, cond, _&&_}
 use mathlib.Core.List.{List, [], _∷_, _++_}
 use lib.Dec.{leb}
 use lib.ListN.{length, take, drop, replicate}

@@ -138,7 +138,7 @@ fn header_back(fields: Fields) -> [u8; 24]
     ]
 }
 
-fn write_header(fields: Fields, output: &mut [u8])
+fn put_header(fields: Fields, output: &mut [u8])
     requires { ⌜ 64 ≤ length (now output) ⌝ }
     ensures { λ _. ⌜ now (output .exit) ≡ pasted (now (output .entry)) 0 (headerOf fields) ⌝ }
 {
@@ -148,6 +148,37 @@ fn write_header(fields: Fields, output: &mut [u8])
     copying::copy_into(&front, output, 0);
     copying::copy_into(&between, output, 16);
     copying::copy_into(&back, output, 40);
+}
+
+// Writes the header of these fields. They come one by one, in registers: a struct of them would be put together in memory, and reading its
+// neighbouring numbers at once, right after, costs more than writing the header.
+pub fn write_header(
+    whole: u32,
+    source: u8,
+    destination: u8,
+    code: Code,
+    areas: Areas,
+    block: u8,
+    blocks: u8,
+    size: u16,
+    watch: Milliseconds,
+    output: &mut [u8],
+)
+    requires { ⌜ 64 ≤ length (now output) ⌝ }
+    ensures { λ _. ⌜ now (output .exit) ≡ pasted (now (output .entry)) 0 (headerOf (record { length = whole; source = source; destination = destination; code = code; areas = areas; block = block; blocks = blocks; size = size; watch = watch })) ⌝ }
+{
+    let fields = Fields {
+        length: whole,
+        source,
+        destination,
+        code,
+        areas,
+        block,
+        blocks,
+        size,
+        watch,
+    };
+    put_header(fields, output);
 }
 
 pub fn write_frame(fields: Fields, block: &[u8], output: &mut [u8]) -> Written
@@ -162,7 +193,22 @@ pub fn write_frame(fields: Fields, block: &[u8], output: &mut [u8]) -> Written
     if output.len() < whole {
         return Written::Refused(Refusal::Buffer);
     }
-    write_header(fixed_fields(fields), output);
+    let fixed = fixed_fields(fields);
+    let code = fixed.code;
+    let areas = fixed.areas;
+    let watch = fixed.watch;
+    write_header(
+        fixed.length,
+        fixed.source,
+        fixed.destination,
+        code,
+        areas,
+        fixed.block,
+        fixed.blocks,
+        fixed.size,
+        watch,
+        output,
+    );
     copying::copy_into(&block[0..size], output, 64);
     Written::Octets(whole)
 }

@@ -1,29 +1,20 @@
 -- `writing::write_frame` meets its contract.
-use mathlib.Core.Path.{_≡_, _∙_, ap, ap₂, sym}
-use mathlib.Core.List.{List, _++_}
-use Prim.Native.Nat.{ℕ, _+_, _-_, _≤_, _<_}
+use mathlib.Core.Path.{_∙_, ap}
+use mathlib.Core.List.{List}
+use Prim.Native.Nat.{ℕ, _-_, _≤_, _<_}
 use native.Mathlib.Omega.{arith}
 use native.Mathlib.Nat.{sub-zero}
-use lib.ListN.{length, take, drop}
-use lib.Seq.{length-take-le}
+use lib.ListN.{length, take}
 use borrow.Author.Tests.{lt-leb, le-leb}
-use Rattle.copying.specs.Laws.{paste-both}
 use Rattle.copying.specs.Pasted.{pasted}
 use Rattle.frame.specs.declared.Fields.{Fields}
 use Rattle.reading.specs.Reading.{dataSize}
-use Rattle.writing.specs.Lengths.{length-header}
+use Rattle.writing.specs.Steps.{in-two-steps}
 use Rattle.writing.specs.Writing.{fixed, headerOf, wholeLength}
 use Rattle.writing.specs.declared.Written.the-variants.{Octets}
 use borrow.Author.Needs.{needs}
 use Rattle.writing.proofs.write_frame.Statement.{statement}
 use Rattle.writing.proofs.write_frame.Tie as tie
-
--- the header in front, and the data right behind it
-joined : (out front block : List ℕ) (n : ℕ) → length front ≡ 64 → n ≤ length block → pasted (pasted out 0 front) 64 (take n block) ≡ (front ++ take n block) ++ drop (64 + n) out
-joined out front block n e enough =
-    ap (λ (k : ℕ). pasted (pasted out 0 front) k (take n block)) (sym e)
-    ∙ paste-both out front (take n block)
-    ∙ ap₂ (λ (k m : ℕ). (front ++ take n block) ++ drop (k + m) out) e (length-take-le n block enough)
 
 data-size-requires : tie.Need-data-size-requires
 data-size-requires c κs = search needs
@@ -67,18 +58,18 @@ same-length c = search needs
 
 returns-3 : tie.Need-returns-3
 returns-3 c =
-    let a = c .before .before .before .before .before .before .before .before .before .before .before .before .before .before .before .before .args in
+    let a = c .before .before .before .before .before .before .before .before .before .before .before .before .before .before .before .before .before .before .args in
     let out = a .output .now in
     let block = a .block .now in
     let front = headerOf (fixed (a .fields)) in
-    let size = c .before .before .before .before .before .before .before .before .before .before .before .before .before .data-size .ensures in
-    let enough : dataSize (a .fields) ≤ length block = omega (arith, size, c .before .before .before .before .before .before .before .before .before .before .before .if1 .left) in
-    let room : wholeLength (a .fields) ≤ length out = omega (arith, c .before .before .before .before .before .before .before .before .before .before .before .before .whole-length .ensures, c .before .before .before .before .before .before .before .before .before .before .if2 .left) in
-    let first = c .before .before .before .before .before .before .before .write-header .ensures ∙ ap (λ (f : Fields). pasted out 0 (headerOf f)) (c .before .before .before .before .before .before .before .before .before .fixed-fields .ensures) in
-    let second = c .before .before .copy-into .ensures ∙ ap (λ (l : List ℕ). pasted l 64 (take (c .before .before .before .before .before .before .before .before .before .before .before .before .before .data-size .result - 0) block)) first in
+    let size = c .before .before .before .before .before .before .before .before .before .before .before .before .before .before .before .data-size .ensures in
+    let enough : dataSize (a .fields) ≤ length block = omega (arith, size, c .before .before .before .before .before .before .before .before .before .before .before .before .before .if1 .left) in
+    let room : wholeLength (a .fields) ≤ length out = omega (arith, c .before .before .before .before .before .before .before .before .before .before .before .before .before .before .whole-length .ensures, c .before .before .before .before .before .before .before .before .before .before .before .before .if2 .left) in
+    let first = c .before .before .before .before .before .before .before .write-header .ensures ∙ ap (λ (f : Fields). pasted out 0 (headerOf f)) (c .before .before .before .before .before .before .before .before .before .before .before .fixed-fields .ensures) in
+    let second = c .before .before .copy-into .ensures ∙ ap (λ (l : List ℕ). pasted l 64 (take (c .before .before .before .before .before .before .before .before .before .before .before .before .before .before .before .data-size .result - 0) block)) first in
     let whole = ap (λ (k : ℕ). pasted (pasted out 0 front) 64 (take k block)) (sub-zero _ ∙ size) in (
-      simp (le-leb _ _ enough, le-leb _ _ room) (ap Octets (c .before .before .before .before .before .before .before .before .before .before .before .before .whole-length .ensures)),
-      simp (le-leb _ _ enough, le-leb _ _ room) (second ∙ whole ∙ joined out front block (dataSize (a .fields)) (length-header _) enough),
+      simp (le-leb _ _ enough, le-leb _ _ room) (ap Octets (c .before .before .before .before .before .before .before .before .before .before .before .before .before .before .whole-length .ensures)),
+      second ∙ whole ∙ in-two-steps (a .fields) block out enough room,
     )
 
 pub write-frame-spec : {M : Type 1} → statement M

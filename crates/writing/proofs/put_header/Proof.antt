@@ -1,4 +1,4 @@
--- `writing::write_header` meets its contract.
+-- `writing::put_header` meets its contract.
 use mathlib.Core.Path.{_≡_, refl, ap, ap₂, sym, _∙_}
 use mathlib.Core.List.{List, _++_}
 use Prim.Native.Nat.{ℕ, _+_, _≤_}
@@ -10,8 +10,8 @@ use Rattle.copying.specs.Pasted.{pasted}
 use Rattle.writing.specs.Lengths.{length-front}
 use Rattle.writing.specs.Writing.{frontOf, between, backOf, headerOf}
 use borrow.Author.Needs.{needs}
-use Rattle.writing.proofs.write_header.Statement.{statement}
-use Rattle.writing.proofs.write_header.Tie as tie
+use Rattle.writing.proofs.put_header.Statement.{statement}
+use Rattle.writing.proofs.put_header.Tie as tie
 
 -- three lists, one right behind the other
 joined : (out a b c : List ℕ) → length a ≡ 16 → length b ≡ 24 → 64 ≤ length out → pasted (pasted (pasted out 0 a) 16 b) 40 c ≡ pasted out 0 ((a ++ b) ++ c)
@@ -62,8 +62,8 @@ returns c =
     let third = c .before .before .copy-into3 .ensures ∙ ap₂ (λ (l b : List ℕ). pasted l 40 b) second (c .before .before .before .before .before .before .before .before .before .before .before .before .before .before .before .header-back .ensures) in
     third ∙ joined out front between back (length-front (a .fields)) refl (c .before .before .before .before .before .before .before .before .before .before .before .before .before .before .before .before .before .before .pre)
 
-pub write-header-spec : {M : Type 1} → statement M
-write-header-spec =
+pub put-header-spec : {M : Type 1} → statement M
+put-header-spec =
     tie.close
     (tie.spec
     header-front-requires
