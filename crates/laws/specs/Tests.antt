@@ -1,5 +1,5 @@
 -- Laws of tests, as values of Bool. Assumes nothing.
-use mathlib.Core.Path.{_≡_, refl}
+use mathlib.Core.Path.{_≡_, refl, sym}
 use mathlib.Core.Bool.{Bool, true, false, not, _&&_, _||_, false≢true}
 
 -- a test of two parts holds where both parts do
@@ -18,3 +18,12 @@ second false b e = absurd (false≢true e)
 pub implied : (a b : Bool) → (not a || b) ≡ true → a ≡ true → b ≡ true
 implied true b e h = e
 implied false b e h = absurd (false≢true h)
+
+-- a test of two parts, one of which is enough, fails where both parts do
+pub neither-first : (a b : Bool) → (a || b) ≡ false → a ≡ false
+neither-first true b e = e
+neither-first false b e = refl
+
+pub neither-second : (a b : Bool) → (a || b) ≡ false → b ≡ false
+neither-second true b e = absurd (false≢true (sym e))
+neither-second false b e = e

@@ -1,7 +1,7 @@
 -- The station list in four arrays of numbers: whether a number is listed, its areas, its watch time and its misses.
 use mathlib.Core.Path.{_≡_}
 use Prim.Native.Nat.{ℕ, zero, suc, _+_, _*_}
-use mathlib.Core.Bool.{Bool, false}
+use mathlib.Core.Bool.{Bool, false, _||_}
 use mathlib.Core.List.{List, [], _∷_}
 use lib.ListN.{length, getD}
 use Rattle.area.specs.declared.Areas.{Areas}
@@ -48,3 +48,10 @@ flagged listed = membersIn listed [] [] []
 -- "'Next' is the next larger number in the list with ours, or the smallest after the largest": the flags alone tell it.
 abbrev pub nextIn : ℕ → List Bool → ℕ → ℕ
 nextIn ours listed number = nextAfter ours (flagged listed) number
+
+-- whether one of four numbers is listed, or one of sixteen
+abbrev pub anyOfFour : List Bool → ℕ → Bool
+anyOfFour listed from = (getD listed from false || getD listed (from + 1) false) || (getD listed (from + 2) false || getD listed (from + 3) false)
+
+abbrev pub anyOfSixteen : List Bool → ℕ → Bool
+anyOfSixteen listed from = (anyOfFour listed from || anyOfFour listed (from + 4)) || (anyOfFour listed (from + 8) || anyOfFour listed (from + 12))

@@ -1,17 +1,18 @@
 -- Laws for the search by the flags. Assumes nothing.
 use mathlib.Core.Path.{_≡_, refl, ap, _∙_}
-use mathlib.Core.Bool.{Bool, true, false, cond}
+use mathlib.Core.Bool.{Bool, true, false, cond, _||_}
 use mathlib.Core.List.{List, [], _∷_}
 use Prim.Native.Nat.{ℕ, suc, _+_, _<_, _≤_, min}
 use native.Mathlib.Nat.{le-refl}
 use native.Mathlib.Omega.{arith}
 use lib.ListN.{length, getD, drop, length-drop}
+use Rattle.laws.specs.Tests.{neither-first, neither-second}
 use Rattle.members.specs.Members.{numbersFrom}
 use Rattle.members.specs.Search.{firstIn, firstFrom, numberOr}
 use Rattle.members.specs.Loops.{numbers-skip, numbers-first}
 use Rattle.members.specs.declared.Entry.{Entry}
 use Rattle.members.specs.declared.Members.{Members}
-use Rattle.lists.specs.Lists.{flagged}
+use Rattle.lists.specs.Lists.{flagged, anyOfFour, anyOfSixteen}
 use Rattle.lists.specs.Laws.{length-in, listed-in}
 
 module _ (listed : List Bool) (i : ℕ) (h : i < 256) where
@@ -27,6 +28,33 @@ module _ (listed : List Bool) (i : ℕ) (h : i < 256) where
   first-here otherwise e =
       ap (λ (numbers : List ℕ). numberOr otherwise (firstIn numbers))
       (numbers-first (flagged listed .entries) i inside (listed-in listed [] [] [] i h ∙ e))
+
+-- numbers none of which is listed are passed over at once
+module _ (listed : List Bool) where
+  step : (i j : ℕ) → i < 256 → i + 1 ≡ j → getD listed i false ≡ false → firstFrom i (flagged listed) ≡ firstFrom j (flagged listed)
+  step i j h e not-listed = first-skip listed i h not-listed ∙ ap (λ (k : ℕ). firstFrom k (flagged listed)) e
+
+  four-skip : (i j : ℕ) → i + 4 ≤ 256 → i + 4 ≡ j → anyOfFour listed i ≡ false → firstFrom i (flagged listed) ≡ firstFrom j (flagged listed)
+  four-skip i j h e none =
+      let front = getD listed i false || getD listed (i + 1) false in
+      let back = getD listed (i + 2) false || getD listed (i + 3) false in
+      let in-front = neither-first front back none in
+      let in-back = neither-second front back none in
+      step i (i + 1) (omega arith) refl (neither-first (getD listed i false) (getD listed (i + 1) false) in-front)
+      ∙ step (i + 1) (i + 2) (omega arith) (omega arith) (neither-second (getD listed i false) (getD listed (i + 1) false) in-front)
+      ∙ step (i + 2) (i + 3) (omega arith) (omega arith) (neither-first (getD listed (i + 2) false) (getD listed (i + 3) false) in-back)
+      ∙ step (i + 3) j (omega arith) (omega arith) (neither-second (getD listed (i + 2) false) (getD listed (i + 3) false) in-back)
+
+  pub sixteen-skip : (i : ℕ) → i + 16 ≤ 256 → anyOfSixteen listed i ≡ false → firstFrom i (flagged listed) ≡ firstFrom (i + 16) (flagged listed)
+  sixteen-skip i h none =
+      let front = anyOfFour listed i || anyOfFour listed (i + 4) in
+      let back = anyOfFour listed (i + 8) || anyOfFour listed (i + 12) in
+      let in-front = neither-first front back none in
+      let in-back = neither-second front back none in
+      four-skip i (i + 4) (omega arith) refl (neither-first (anyOfFour listed i) (anyOfFour listed (i + 4)) in-front)
+      ∙ four-skip (i + 4) (i + 8) (omega arith) (omega arith) (neither-second (anyOfFour listed i) (anyOfFour listed (i + 4)) in-front)
+      ∙ four-skip (i + 8) (i + 12) (omega arith) (omega arith) (neither-first (anyOfFour listed (i + 8)) (anyOfFour listed (i + 12)) in-back)
+      ∙ four-skip (i + 12) (i + 16) (omega arith) (omega arith) (neither-second (anyOfFour listed (i + 8)) (anyOfFour listed (i + 12)) in-back)
 
 -- what is found is not below where the search starts
 not-below : (end number : ℕ) (entries : List Entry) → end ≤ number → end ≤ numberOr end (firstIn (numbersFrom number entries))
