@@ -122,13 +122,13 @@ typedef struct {
 typedef struct {
     uint8_t phase;
     flnet_settings own; /* off: only the number last started with */
+    uint8_t view;       /* participating: the number taken to be the holder; joining: the last token destination heard */
+    uint8_t block;      /* participating: blocks of our turn that have been sent */
     uint32_t elapsed;   /* ticks since listening or ring startup began (listening stops counting when its trigger is due), in joining since
                            the last token frame, as a participant since the watch restarted */
     uint32_t waited;    /* joining: ticks since the third round ended, until our request is due */
     uint8_t rounds;     /* joining: rounds that have ended, at most 3 */
     bool sent;          /* ring startup: our request has been sent */
-    uint8_t view;       /* participating: the number taken to be the holder; joining: the last token destination heard */
-    uint8_t block;      /* participating: blocks of our turn that have been sent */
     flnet_gathering gathering;
     flnet_panel panel;
 } flnet_core;
@@ -201,10 +201,10 @@ static_assert(sizeof(flnet_settings) == 12, "flnet_settings");
 static_assert(sizeof(flnet_list) == 2816, "flnet_list");
 static_assert(sizeof(flnet_gathering) == 2, "flnet_gathering");
 static_assert(sizeof(flnet_panel) == 12, "flnet_panel");
-static_assert(sizeof(flnet_core) == 44, "flnet_core");
-static_assert(sizeof(flnet_station) == 2860, "flnet_station");
+static_assert(sizeof(flnet_core) == 40, "flnet_core");
+static_assert(sizeof(flnet_station) == 2856, "flnet_station");
 static_assert(sizeof(flnet_answer) == 16, "flnet_answer");
-static_assert(sizeof(flnet_result) == 64, "flnet_result");
+static_assert(sizeof(flnet_result) == 56, "flnet_result");
 static_assert(sizeof(flnet_figure) == 24, "flnet_figure");
 #else
 }

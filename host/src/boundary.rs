@@ -110,12 +110,12 @@ pub struct Panel {
 pub struct Core {
     pub phase: u8,
     pub own: Settings,
+    pub view: u8,
+    pub block: u8,
     pub elapsed: u32,
     pub waited: u32,
     pub rounds: u8,
     pub sent: bool,
-    pub view: u8,
-    pub block: u8,
     pub gathering: Gathering,
     pub panel: Panel,
 }

@@ -24,17 +24,18 @@ use station::Gathering;
 use station::Settings;
 use units::Ticks;
 
-// A station's state without its list, its phase as a number.
+// A station's state without its list, its phase as a number. In this order it has 40 octets, which compilers copy in pieces that do not
+// overlap; 44 would be copied in pieces that do, and reading such a piece right after it was stored stalls the processor.
 #[repr(C)]
 pub struct Core {
     pub phase: u8,
     pub own: Settings,
+    pub view: u8,
+    pub block: u8,
     pub elapsed: Ticks,
     pub waited: Ticks,
     pub rounds: u8,
     pub sent: bool,
-    pub view: u8,
-    pub block: u8,
     pub gathering: Gathering,
     pub panel: Panel,
 }

@@ -210,8 +210,8 @@ fn median(mut times: Vec<f64>) -> f64 {
     times[times.len() / 2]
 }
 
-/// Measures both by turns, so that whatever else the machine does falls on both. The first
-/// measurements only warm up.
+/// Measures both by turns, so that whatever else the machine does falls on both; the ratio is the
+/// median of those of two neighbouring measurements. The first ones only warm up.
 fn line(
     what: &str,
     (unit, nanoseconds): Unit,
@@ -219,10 +219,10 @@ fn line(
     mut model: impl FnMut() -> f64,
 ) {
     (proved(), model());
-    let times = (0..REPETITIONS).map(|_| (proved(), model()));
-    let (proved, model): (Vec<f64>, Vec<f64>) = times.unzip();
+    let times: Vec<(f64, f64)> = (0..REPETITIONS).map(|_| (proved(), model())).collect();
+    let ratio = median(times.iter().map(|(proved, model)| proved / model).collect());
+    let (proved, model): (Vec<f64>, Vec<f64>) = times.into_iter().unzip();
     let (proved, model) = (median(proved) / nanoseconds, median(model) / nanoseconds);
-    let ratio = proved / model;
     println!("{what:<42} {unit:>4} {proved:>10.1} {model:>10.1} {ratio:>7.1}");
 }
 
