@@ -22,7 +22,7 @@ pub struct Settings {
     pub watch: u8,
 }
 
-/// The station list, in arrays by station number.
+/// The station list, in arrays by station number, and octets behind them that no call may change.
 #[repr(C)]
 #[derive(Clone, Copy, Debug, PartialEq, Eq)]
 pub struct List {
@@ -30,6 +30,7 @@ pub struct List {
     pub areas: [u16; 1024],
     pub watch: [u8; 256],
     pub misses: [u8; 256],
+    behind: [u8; 64],
 }
 
 /// What the list has of one station.
@@ -47,6 +48,7 @@ impl List {
         areas: [0; 1024],
         watch: [0; 256],
         misses: [0; 256],
+        behind: [0x5a; 64],
     };
 
     pub fn entry(&self, number: u8) -> Entry {
