@@ -1,3 +1,2 @@
 -- What several proofs of this crate cite.
 mod Lent
-mod Placed

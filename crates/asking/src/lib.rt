@@ -2,38 +2,29 @@
 mod due;
 mod fields;
 mod sent;
-mod turn;
 
 use due::is_due;
-pub use due::is_placed;
-use fields::block_fields;
-pub use fields::is_last;
 use fields::request_fields;
 use fields::trigger_fields;
 use frame::Fields;
 use frame::Refusal;
-pub use sent::Sent;
-pub use sent::after_block;
 use sent::block_sent;
 use sent::request_sent;
 use station::Asked;
 use station::Phase;
-use station::Settings;
 use station::Station;
-use turn::make_turn;
 use writing::Written;
 ghost use mathlib.Core.Path.{_≡_};
 ghost use mathlib.Core.Bool.{true};
 ghost use mathlib.Core.List.{[]};
-ghost use Prim.Native.Nat.{_+_, _≤_};
+ghost use Prim.Native.Nat.{_≤_};
 ghost use lib.ListN.{length, drop};
 ghost use Rattle.area.specs.Areas.{memoryOctets};
-ghost use Rattle.asking.specs.Parts.{placedIn, nextFields, turnFor};
 ghost use Rattle.block.specs.Blocks.{startOf};
 ghost use Rattle.reading.specs.Reading.{dataSize};
 ghost use Rattle.station.specs.Asking.{isPlaced, dueIn, nextBlock, dueFields, turnAfter, blockSent, sentIn, lentRight, askOf};
 ghost use Rattle.station.specs.declared.Phase.the-variants.{Participating};
-ghost use Rattle.writing.specs.Writing.{wholeLength, fixed, outputOf};
+ghost use Rattle.writing.specs.Writing.{wholeLength, outputOf};
 
 // A call: the state after it, and the answer.
 pub struct Asking {
@@ -81,58 +72,6 @@ fn send_bare(station: Station, fields: Fields, output: &mut [u8]) -> Asking
     Asking { station, answer }
 }
 
-// Writes the frame of a block that has its data in front of `octets`: as `write` does, but without a struct in memory (`write_header`).
-fn write_block(fields: Fields, octets: &[u8], output: &mut [u8]) -> usize
-    requires { ⌜ fixed fields ≡ fields ⌝ }
-    requires { ⌜ dataSize fields ≡ fields .size ⌝ }
-    requires { ⌜ dataSize fields ≤ length (now octets) ⌝ }
-    requires { ⌜ wholeLength fields ≤ length (now output) ⌝ }
-    ensures { λ r. ⌜ r ≡ wholeLength fields ⌝ }
-    ensures { λ _. ⌜ now (output .exit) ≡ outputOf fields (now (octets .entry)) (now (output .entry)) ⌝ }
-{
-    let size = fields.size as usize;
-    let code = fields.code;
-    let areas = fields.areas;
-    let watch = fields.watch;
-    writing::write_header(
-        fields.length,
-        fields.source,
-        fields.destination,
-        code,
-        areas,
-        fields.block,
-        fields.blocks,
-        fields.size,
-        watch,
-        output,
-    );
-    copying::copy_into(&octets[0..size], output, 64);
-    64 + size
-}
-
-// The next block of our turn, to `next`: writes its frame, and answers the frame's length. The turn is copied at the first block.
-pub fn send_next(
-    own: Settings,
-    block: u8,
-    next: u8,
-    memory: &[u8],
-    turn: &mut [u8],
-    output: &mut [u8],
-) -> usize
-    requires { ⌜ placedIn (own .areas) block ≡ true ⌝ }
-    requires { ⌜ length (now memory) ≡ memoryOctets ⌝ }
-    requires { ⌜ length (now turn) ≡ memoryOctets ⌝ }
-    requires { ⌜ 1088 ≤ length (now output) ⌝ }
-    ensures { λ r. ⌜ r ≡ wholeLength (nextFields own block next) ⌝ }
-    ensures { λ _. ⌜ now (turn .exit) ≡ turnFor (own .areas) block (now (memory .entry)) (now (turn .entry)) ⌝ }
-    ensures { λ _. ⌜ now (output .exit) ≡ outputOf (nextFields own block next) (drop (startOf (block + 1)) (turnFor (own .areas) block (now (memory .entry)) (now (turn .entry)))) (now (output .entry)) ⌝ }
-{
-    let areas = own.areas;
-    make_turn(areas, block, memory, turn);
-    let start = 1024 * block as usize;
-    write_block(block_fields(own, block, next), &turn[start..], output)
-}
-
 // The next block of our turn, to the station that the list has as next.
 fn send_block(station: Station, memory: &[u8], turn: &mut [u8], output: &mut [u8]) -> Asking
     requires { ⌜ isPlaced station ≡ true ⌝ }
@@ -148,7 +87,7 @@ fn send_block(station: Station, memory: &[u8], turn: &mut [u8], output: &mut [u8
     let number = own.number;
     let members = station.members;
     let next = members::next_after(number, members, number);
-    let octets = send_next(own, station.block, next, memory, turn, output);
+    let octets = sending::send_next(own, station.block, next, memory, turn, output);
     let answer = Asked::Octets(octets);
     let station = block_sent(station, next);
     Asking { station, answer }

@@ -8,7 +8,7 @@ use lib.Dec.{eqb, leb}
 use lib.ListN.{length, drop}
 use native.Mathlib.Omega.{arith}
 use borrow.Author.Tests.{eqb-true, not-true}
-use Rattle.asking.specs.Parts.{placedIn, lastIn, nextFields, turnFor}
+use Rattle.station.specs.Asking.{placedIn, lastIn, nextFields, turnFor}
 use Rattle.block.specs.Blocks.{startOf}
 use Rattle.frame.specs.Codes.{isToken, isCyclic}
 use Rattle.frame.specs.declared.Fields.{Fields}

@@ -103,7 +103,7 @@ pub fn holds_block(core: Core) -> bool
     ensures { λ r. ⌜ r ≡ holdsBlock core ⌝ }
 {
     let own = core.own;
-    (core.phase == 4) & ((core.view == own.number) & asking::is_placed(own, core.block))
+    (core.phase == 4) & ((core.view == own.number) & sending::is_placed(own, core.block))
 }
 
 // The core after a block is sent, where `next` is the number next after ours.
@@ -113,7 +113,7 @@ pub fn sent_block(core: Core, next: u8) -> Core
 {
     let own = core.own;
     let counter = core.panel;
-    let after = asking::after_block(own, core.view, core.block, counter, next);
+    let after = sending::after_block(own, core.view, core.block, counter, next);
     let panel = after.panel;
     Core {
         phase: 4,

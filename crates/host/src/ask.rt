@@ -32,7 +32,7 @@ fn ask_in_place(
 {
     let own = core.own;
     let next = lists::next_after(own.number, listed, own.number);
-    let octets = asking::send_next(own, core.block, next, memory, turn, output);
+    let octets = sending::send_next(own, core.block, next, memory, turn, output);
     Outcome {
         core: sent_block(core, next),
         answer: frame_answer(octets),

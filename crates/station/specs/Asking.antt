@@ -5,6 +5,7 @@ use mathlib.Core.List.{List}
 use lib.Dec.{eqb, leb, ltb}
 use lib.ListN.{length, drop}
 use Rattle.area.specs.Areas.{inRange, memoryOctets}
+use Rattle.area.specs.declared.Areas.{Areas}
 use Rattle.block.specs.Blocks.{blocksOf, startOf}
 use Rattle.copying.specs.Pasted.{pasted}
 use Rattle.frame.specs.declared.Fields.{Fields}
@@ -21,6 +22,7 @@ use Rattle.station.specs.declared.Asked.{Asked}
 use Rattle.station.specs.declared.Asked.the-variants as answers
 use Rattle.station.specs.declared.Phase.{Phase}
 use Rattle.station.specs.declared.Phase.the-variants.{Off, Listening, Startup, Joining, Participating}
+use Rattle.station.specs.declared.Settings.{Settings}
 use Rattle.station.specs.declared.Station.{Station}
 
 -- the call: the state after it, the answer, and the lent buffers after it; the common memory is only read
@@ -30,10 +32,26 @@ pub record Asking : Type 0 where
   pub turn : List ℕ
   pub output : List ℕ
 
+-- where `block` blocks of our turn have been sent: there is a next one
+abbrev pub placedIn : Areas → ℕ → Bool
+placedIn areas block = inRange areas && ltb block (blocksOf areas)
+
+-- the next one is the last
+abbrev pub lastIn : Areas → ℕ → Bool
+lastIn areas block = leb (blocksOf areas) (block + 1)
+
+-- the fields of its frame to `next`
+abbrev pub nextFields : Settings → ℕ → ℕ → Fields
+nextFields own block next = blockFields (own .number) next (own .areas) (own .watch) (block + 1)
+
+-- the turn buffer that it is sent from: "A holder sends its blocks in order, all from a copy of its areas made at the first."
+abbrev pub turnFor : Areas → ℕ → List ℕ → List ℕ → List ℕ
+turnFor areas block memory turn = cond (eqb block 0) (pasted turn 0 (turnOf areas memory)) turn
+
 -- our place in our turn is one of its blocks, which always holds where calls alone made the state (`always-placed`): what could not be sent is
 -- not due
 abbrev pub isPlaced : Station → Bool
-isPlaced station = inRange (station .own .areas) && ltb (station .block) (blocksOf (station .own .areas))
+isPlaced station = placedIn (station .own .areas) (station .block)
 
 -- whether a frame is due: a trigger in listening; our request in ring startup until it is sent, and in joining; "A participant has a frame due
 -- whenever it holds, and at no other time."
@@ -49,7 +67,7 @@ abbrev pub nextBlock : Station → ℕ
 nextBlock station = station .block + 1
 
 abbrev pub isLast : Station → Bool
-isLast station = leb (blocksOf (station .own .areas)) (nextBlock station)
+isLast station = lastIn (station .own .areas) (station .block)
 
 abbrev pub nextStation : Station → ℕ
 nextStation station = nextAfter (station .own .number) (station .members) (station .own .number)
@@ -60,17 +78,15 @@ dueFields Off station = triggerFields (station .own .number)
 dueFields Listening station = triggerFields (station .own .number)
 dueFields Startup station = requestFields (station .own .number) (station .own .areas) (station .own .watch)
 dueFields Joining station = requestFields (station .own .number) (station .own .areas) (station .own .watch)
-dueFields Participating station =
-    blockFields (station .own .number) (nextStation station) (station .own .areas) (station .own .watch) (nextBlock station)
+dueFields Participating station = nextFields (station .own) (station .block) (nextStation station)
 
--- "A holder sends its blocks in order, all from a copy of its areas made at the first."
+-- the turn buffer, which only a participant's frame is sent from
 abbrev pub turnAfter : Phase → Station → List ℕ → List ℕ → List ℕ
 turnAfter Off station memory turn = turn
 turnAfter Listening station memory turn = turn
 turnAfter Startup station memory turn = turn
 turnAfter Joining station memory turn = turn
-turnAfter Participating station memory turn =
-    cond (eqb (station .block) 0) (pasted turn 0 (turnOf (station .own .areas) memory)) turn
+turnAfter Participating station memory turn = turnFor (station .own .areas) (station .block) memory turn
 
 -- a startup in which our request has been sent
 abbrev pub requestSent : Station → Station

@@ -3,9 +3,8 @@ use Rattle.boundary.specs.Quick.{sentCore}
 use Rattle.boundary.specs.Numbers.{frameAnswer, askedAnswer}
 use Rattle.boundary.specs.Crossing.{coreOf}
 use Rattle.writing.specs.Writing.{wholeLength, outputOf}
-use Rattle.station.specs.Asking.{Asking}
+use Rattle.station.specs.Asking.{nextFields, turnFor, Asking}
 use Rattle.block.specs.Blocks.{startOf}
-use Rattle.asking.specs.Parts.{nextFields, turnFor}
 use Prim.Native.Nat.{ℕ, _+_}
 use lib.ListN.{drop}
 use mathlib.Core.Path.{ap, sym}

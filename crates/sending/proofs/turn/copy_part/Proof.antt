@@ -1,4 +1,4 @@
--- `asking::turn::copy_part` meets its contract.
+-- `sending::turn::copy_part` meets its contract.
 use mathlib.Core.Path.{_≡_, ap, _∙_}
 use mathlib.Core.Bool.{true}
 use Prim.Native.Nat.{ℕ, _+_, _-_, _≤_}
@@ -12,8 +12,8 @@ use Rattle.area.specs.declared.Span.{Span}
 use Rattle.copying.specs.Pasted.{pasted}
 use Rattle.station.specs.Data.{octetsIn}
 use borrow.Author.Needs.{needs}
-use Rattle.asking.proofs.turn.copy_part.Statement.{statement}
-use Rattle.asking.proofs.turn.copy_part.Tie as tie
+use Rattle.sending.proofs.turn.copy_part.Statement.{statement}
+use Rattle.sending.proofs.turn.copy_part.Tie as tie
 
 -- the octets of a part in range stand in the common memory
 ends : (area : Area) (part : Part) (span : Span) → span ≡ spanOf area part → inArea area part ≡ true → span .start + span .length ≤ memoryOctets

@@ -1,7 +1,7 @@
--- `asking::due::is_placed` meets its contract.
+-- `sending::fields::is_placed` meets its contract.
 use borrow.Author.Needs.{needs}
-use Rattle.asking.proofs.due.is_placed.Statement.{statement}
-use Rattle.asking.proofs.due.is_placed.Tie as tie
+use Rattle.sending.proofs.fields.is_placed.Statement.{statement}
+use Rattle.sending.proofs.fields.is_placed.Tie as tie
 
 in-range-requires : tie.Need-in-range-requires
 in-range-requires c κs = search needs

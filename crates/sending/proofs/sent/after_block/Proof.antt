@@ -1,10 +1,10 @@
--- `asking::sent::after_block` meets its contract.
+-- `sending::sent::after_block` meets its contract.
 use mathlib.Core.Path.{refl}
 use native.Mathlib.Omega.{arith}
 use borrow.Author.Needs.{needs}
-use Rattle.asking.proofs.Placed.{placed}
-use Rattle.asking.proofs.sent.after_block.Statement.{statement}
-use Rattle.asking.proofs.sent.after_block.Tie as tie
+use Rattle.sending.proofs.Placed.{placed}
+use Rattle.sending.proofs.sent.after_block.Statement.{statement}
+use Rattle.sending.proofs.sent.after_block.Tie as tie
 
 is-last-requires : tie.Need-is-last-requires
 is-last-requires c κs = search needs

@@ -1,4 +1,4 @@
--- `asking::turn::copy_turn` meets its contract.
+-- `sending::turn::copy_turn` meets its contract.
 use mathlib.Core.Path.{_≡_, ap, sym, _∙_}
 use mathlib.Core.Bool.{true}
 use mathlib.Core.List.{List}
@@ -17,8 +17,8 @@ use Rattle.laws.specs.Tests.{first, second}
 use Rattle.station.specs.Data.{octetsIn, turnOf}
 use lib.Seq.{length-take-le}
 use borrow.Author.Needs.{needs}
-use Rattle.asking.proofs.turn.copy_turn.Statement.{statement}
-use Rattle.asking.proofs.turn.copy_turn.Tie as tie
+use Rattle.sending.proofs.turn.copy_turn.Statement.{statement}
+use Rattle.sending.proofs.turn.copy_turn.Tie as tie
 
 -- area 1 in front, and area 2 right behind it
 joined : (areas : Areas) (memory turn : List ℕ) → inRange areas ≡ true → length memory ≡ memoryOctets → length turn ≡ memoryOctets →

@@ -1,10 +1,10 @@
--- `asking::turn::make_turn` meets its contract.
+-- `sending::turn::make_turn` meets its contract.
 use mathlib.Core.Path.{_∙_}
 use native.Mathlib.Omega.{arith}
 use borrow.Author.Needs.{needs}
 use borrow.Author.Tests.{eq-eqb, ne-eqb}
-use Rattle.asking.proofs.turn.make_turn.Statement.{statement}
-use Rattle.asking.proofs.turn.make_turn.Tie as tie
+use Rattle.sending.proofs.turn.make_turn.Statement.{statement}
+use Rattle.sending.proofs.turn.make_turn.Tie as tie
 
 copy-turn-requires : tie.Need-copy-turn-requires
 copy-turn-requires c κs = search needs

@@ -1,7 +1,7 @@
--- `asking::fields::is_last` meets its contract.
+-- `sending::fields::is_last` meets its contract.
 use borrow.Author.Needs.{needs}
-use Rattle.asking.proofs.fields.is_last.Statement.{statement}
-use Rattle.asking.proofs.fields.is_last.Tie as tie
+use Rattle.sending.proofs.fields.is_last.Statement.{statement}
+use Rattle.sending.proofs.fields.is_last.Tie as tie
 
 blocks-requires : tie.Need-blocks-requires
 blocks-requires c κs = search needs

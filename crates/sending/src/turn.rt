@@ -7,7 +7,7 @@ ghost use mathlib.Core.Bool.{true};
 ghost use Prim.Native.Nat.{_+_, _*_, _≤_};
 ghost use lib.ListN.{length};
 ghost use Rattle.area.specs.Areas.{inArea, inRange, memoryOctets, spanOf};
-ghost use Rattle.asking.specs.Parts.{turnFor};
+ghost use Rattle.station.specs.Asking.{turnFor};
 ghost use Rattle.copying.specs.Pasted.{pasted};
 ghost use Rattle.station.specs.Data.{octetsIn, turnOf};
 

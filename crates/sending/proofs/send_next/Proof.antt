@@ -1,11 +1,11 @@
--- `asking::send_next` meets its contract.
+-- `sending::send_next` meets its contract.
 use mathlib.Core.Path.{_≡_, ap, ap₂, sym, _∙_}
 use mathlib.Core.List.{List}
 use Prim.Native.Nat.{ℕ, _+_, _*_}
 use native.Mathlib.Omega.{arith}
 use lib.ListN.{drop, length-drop}
 use borrow.Author.Needs.{needs}
-use Rattle.asking.proofs.Placed.{placed}
+use Rattle.sending.proofs.Placed.{placed}
 use Rattle.block.specs.Blocks.{startOf}
 use Rattle.block.specs.Cut.{at-most}
 use Rattle.frame.specs.declared.Fields.{Fields}
@@ -13,8 +13,8 @@ use Rattle.laws.specs.Lists.{to-end}
 use Rattle.reading.specs.Reading.{dataSize}
 use Rattle.round_trip.specs.SentBack.{block-fixed, block-size}
 use Rattle.writing.specs.Writing.{fixed, wholeLength, outputOf}
-use Rattle.asking.proofs.send_next.Statement.{statement}
-use Rattle.asking.proofs.send_next.Tie as tie
+use Rattle.sending.proofs.send_next.Statement.{statement}
+use Rattle.sending.proofs.send_next.Tie as tie
 
 make-turn-requires : tie.Need-make-turn-requires
 make-turn-requires c κs = (placed (c .before .before .before .before .before .args .own .areas) (c .before .before .before .before .before .args .block) (c .before .before .before .before .before .pre .0) .ranged, (c .before .before .before .before .before .pre .1 .0, c .before .before .before .before .before .pre .1 .1 .0))

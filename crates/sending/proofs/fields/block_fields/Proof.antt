@@ -1,9 +1,9 @@
--- `asking::fields::block_fields` meets its contract.
+-- `sending::fields::block_fields` meets its contract.
 use native.Mathlib.Omega.{arith}
 use borrow.Author.Needs.{needs}
-use Rattle.asking.proofs.Placed.{placed, last-equal}
-use Rattle.asking.proofs.fields.block_fields.Statement.{statement}
-use Rattle.asking.proofs.fields.block_fields.Tie as tie
+use Rattle.sending.proofs.Placed.{placed, last-equal}
+use Rattle.sending.proofs.fields.block_fields.Statement.{statement}
+use Rattle.sending.proofs.fields.block_fields.Tie as tie
 
 is-last-requires : tie.Need-is-last-requires
 is-last-requires c κs = search needs

@@ -1,4 +1,4 @@
--- `asking::write_block` meets its contract.
+-- `sending::write_block` meets its contract.
 use mathlib.Core.Path.{_≡_, ap, ap₂, sym, _∙_}
 use mathlib.Core.List.{List}
 use Prim.Native.Nat.{ℕ, _+_, _-_}
@@ -10,8 +10,8 @@ use Rattle.frame.specs.declared.Fields.{Fields}
 use Rattle.reading.specs.Reading.{dataSize}
 use Rattle.writing.specs.Steps.{in-two-steps}
 use Rattle.writing.specs.Writing.{headerOf}
-use Rattle.asking.proofs.write_block.Statement.{statement}
-use Rattle.asking.proofs.write_block.Tie as tie
+use Rattle.sending.proofs.write_block.Statement.{statement}
+use Rattle.sending.proofs.write_block.Tie as tie
 
 cast-size : tie.Need-cast-size
 cast-size c = search needs
