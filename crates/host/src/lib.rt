@@ -1,9 +1,5 @@
 // The station's calls for C, on a state and answers that hold numbers only. include/flnet_station.h declares them. The station list is lent
-// as arrays, so that a call that leaves it alone does not copy it.
-mod ask;
-mod hear;
-mod whole;
-
+// as arrays.
 use boundary::Core;
 use boundary::Outcome;
 use boundary::Shown;
@@ -30,8 +26,7 @@ pub extern "C" fn flnet_new(
     ensures { λ r. ⌜ r ≡ coreOf never ⌝ }
     ensures { λ _. ⌜ membersIn (now (listed .exit)) (now (areas .exit)) (now (watch .exit)) (now (misses .exit)) ≡ noMembers ⌝ }
 {
-    lists::write(members::no_members(), listed, areas, watch, misses);
-    boundary::outer(states::never())
+    calls::new(listed, areas, watch, misses)
 }
 
 #[no_mangle]
@@ -47,18 +42,7 @@ pub extern "C" fn flnet_start(
     ensures { λ r. ⌜ r .answer ≡ switchedAnswer (startOf (stationIn core (now (listed .entry)) (now (areas .entry)) (now (watch .entry)) (now (misses .entry))) own .answer) ⌝ }
     ensures { λ _. ⌜ membersIn (now (listed .exit)) (now (areas .exit)) (now (watch .exit)) (now (misses .exit)) ≡ startOf (stationIn core (now (listed .entry)) (now (areas .entry)) (now (watch .entry)) (now (misses .entry))) own .station .members ⌝ }
 {
-    let station = whole::station_of(core, listed, areas, watch, misses);
-    let after = starting::start(station, own);
-    let answer = after.answer;
-    let station = after.station;
-    whole::keep(
-        station,
-        boundary::switched_answer(answer),
-        listed,
-        areas,
-        watch,
-        misses,
-    )
+    calls::start(core, listed, areas, watch, misses, own)
 }
 
 #[no_mangle]
@@ -73,18 +57,7 @@ pub extern "C" fn flnet_stop(
     ensures { λ r. ⌜ r .answer ≡ switchedAnswer (stopOf (stationIn core (now (listed .entry)) (now (areas .entry)) (now (watch .entry)) (now (misses .entry))) .answer) ⌝ }
     ensures { λ _. ⌜ membersIn (now (listed .exit)) (now (areas .exit)) (now (watch .exit)) (now (misses .exit)) ≡ stopOf (stationIn core (now (listed .entry)) (now (areas .entry)) (now (watch .entry)) (now (misses .entry))) .station .members ⌝ }
 {
-    let station = whole::station_of(core, listed, areas, watch, misses);
-    let after = starting::stop(station);
-    let answer = after.answer;
-    let station = after.station;
-    whole::keep(
-        station,
-        boundary::switched_answer(answer),
-        listed,
-        areas,
-        watch,
-        misses,
-    )
+    calls::stop(core, listed, areas, watch, misses)
 }
 
 #[no_mangle]
@@ -99,13 +72,7 @@ pub extern "C" fn flnet_tick(
     ensures { λ r. ⌜ r .answer ≡ tickedAnswer (tickOf (stationIn core (now (listed .entry)) (now (areas .entry)) (now (watch .entry)) (now (misses .entry))) .answer) ⌝ }
     ensures { λ _. ⌜ membersIn (now (listed .exit)) (now (areas .exit)) (now (watch .exit)) (now (misses .exit)) ≡ tickOf (stationIn core (now (listed .entry)) (now (areas .entry)) (now (watch .entry)) (now (misses .entry))) .station .members ⌝ }
 {
-    if boundary::is_quiet(core) {
-        return Outcome {
-            core: boundary::quiet(core),
-            answer: boundary::done(),
-        };
-    }
-    whole::tick(core, listed, areas, watch, misses)
+    calls::tick(core, listed, areas, watch, misses)
 }
 
 #[no_mangle]
@@ -125,7 +92,7 @@ pub extern "C" fn flnet_hear(
     ensures { λ _. ⌜ now (assembly .exit) ≡ hearOf (stationIn core (now (listed .entry)) (now (areas .entry)) (now (watch .entry)) (now (misses .entry))) (now (octets .entry)) (now (memory .entry)) (now (assembly .entry)) .assembly ⌝ }
     ensures { λ _. ⌜ membersIn (now (listed .exit)) (now (areas .exit)) (now (watch .exit)) (now (misses .exit)) ≡ hearOf (stationIn core (now (listed .entry)) (now (areas .entry)) (now (watch .entry)) (now (misses .entry))) (now (octets .entry)) (now (memory .entry)) (now (assembly .entry)) .station .members ⌝ }
 {
-    hear::hear(core, listed, areas, watch, misses, octets, memory, assembly)
+    calls::hear(core, listed, areas, watch, misses, octets, memory, assembly)
 }
 
 #[no_mangle]
@@ -145,7 +112,7 @@ pub extern "C" fn flnet_ask(
     ensures { λ _. ⌜ now (output .exit) ≡ askOf (stationIn core (now (listed .entry)) (now (areas .entry)) (now (watch .entry)) (now (misses .entry))) (now (memory .entry)) (now (turn .entry)) (now (output .entry)) .output ⌝ }
     ensures { λ _. ⌜ membersIn (now (listed .exit)) (now (areas .exit)) (now (watch .exit)) (now (misses .exit)) ≡ askOf (stationIn core (now (listed .entry)) (now (areas .entry)) (now (watch .entry)) (now (misses .entry))) (now (memory .entry)) (now (turn .entry)) (now (output .entry)) .station .members ⌝ }
 {
-    ask::ask(core, listed, areas, watch, misses, memory, turn, output)
+    calls::ask(core, listed, areas, watch, misses, memory, turn, output)
 }
 
 // What the front panel shows. The list does not matter to it.
@@ -153,6 +120,5 @@ pub extern "C" fn flnet_ask(
 pub extern "C" fn flnet_show(core: Core) -> Shown
     ensures { λ r. ⌜ r ≡ figureNumbers (figureIn core) ⌝ }
 {
-    let panel = core.panel;
-    boundary::figure_shown(states::figure_in(boundary::phase_of(core.phase), panel))
+    calls::show(core)
 }

@@ -1,0 +1,29 @@
+-- `whole::tick` meets its contract.
+use mathlib.Core.Path.{_∙_}
+use borrow.Author.Needs.{needs}
+use Rattle.whole.proofs.tick.Statement.{statement}
+use Rattle.whole.proofs.tick.Tie as tie
+
+station-of-requires : tie.Need-station-of-requires
+station-of-requires c κs = search needs
+
+tick-requires : tie.Need-tick-requires
+tick-requires c κs = search needs
+
+ticked-answer-requires : tie.Need-ticked-answer-requires
+ticked-answer-requires c κs = search needs
+
+keep-requires : tie.Need-keep-requires
+keep-requires c κs = search needs
+
+returns : tie.Need-returns
+returns c =
+    let known = c .before .before .before .before .before .before .before .before .station-of .ensures in
+    let done = c .before .before .before .before .before .before .before .tick .ensures in
+    let kept = c .keep .ensures in
+    (kept .0 ∙ rw (done .0, known), (kept .1 .0 ∙ rw (c .before .before .before .before .before .ticked-answer .ensures, done .1, known), kept .1 .1 ∙ rw (done .0, known)))
+
+pub tick-spec : {M : Type 1} → statement M
+tick-spec =
+    tie.close
+    (tie.spec station-of-requires tick-requires ticked-answer-requires keep-requires returns)
