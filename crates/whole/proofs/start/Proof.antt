@@ -1,5 +1,9 @@
 -- `whole::start` meets its contract.
-use mathlib.Core.Path.{_∙_}
+use Rattle.boundary.specs.Numbers.{switchedAnswer}
+use Rattle.boundary.specs.Crossing.{coreOf}
+use Rattle.station.specs.declared.Station.{Station}
+use Rattle.station.specs.Starting.{startOf}
+use mathlib.Core.Path.{ap, _∙_}
 use borrow.Author.Needs.{needs}
 use Rattle.whole.proofs.start.Statement.{statement}
 use Rattle.whole.proofs.start.Tie as tie
@@ -18,10 +22,13 @@ keep-requires c κs = search needs
 
 returns : tie.Need-returns
 returns c =
+    let a = c .before .before .before .before .before .before .before .before .before .before .before .before .before .args in
     let known = c .before .before .before .before .before .before .before .before .station-of .ensures in
     let done = c .before .before .before .before .before .before .before .start .ensures in
     let kept = c .keep .ensures in
-    (kept .0 ∙ rw (done .0, known), (kept .1 .0 ∙ rw (c .before .before .before .before .before .switched-answer .ensures, done .1, known), kept .1 .1 ∙ rw (done .0, known)))
+    let after = done .0 ∙ ap (λ (s : Station). startOf s (a .own) .station) known in
+    let answer = done .1 ∙ ap (λ (s : Station). startOf s (a .own) .answer) known in
+    (kept .0 ∙ ap coreOf after, (kept .1 .0 ∙ (c .before .before .before .before .before .switched-answer .ensures ∙ ap switchedAnswer answer), kept .1 .1 ∙ ap (λ (s : Station). s .members) after))
 
 pub start-spec : {M : Type 1} → statement M
 start-spec =

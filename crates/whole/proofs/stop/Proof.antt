@@ -1,5 +1,9 @@
 -- `whole::stop` meets its contract.
-use mathlib.Core.Path.{_∙_}
+use Rattle.boundary.specs.Numbers.{switchedAnswer}
+use Rattle.boundary.specs.Crossing.{coreOf}
+use Rattle.station.specs.declared.Station.{Station}
+use Rattle.station.specs.Starting.{stopOf}
+use mathlib.Core.Path.{ap, _∙_}
 use borrow.Author.Needs.{needs}
 use Rattle.whole.proofs.stop.Statement.{statement}
 use Rattle.whole.proofs.stop.Tie as tie
@@ -21,7 +25,9 @@ returns c =
     let known = c .before .before .before .before .before .before .before .before .station-of .ensures in
     let done = c .before .before .before .before .before .before .before .stop .ensures in
     let kept = c .keep .ensures in
-    (kept .0 ∙ rw (done .0, known), (kept .1 .0 ∙ rw (c .before .before .before .before .before .switched-answer .ensures, done .1, known), kept .1 .1 ∙ rw (done .0, known)))
+    let after = done .0 ∙ ap (λ (s : Station). stopOf s .station) known in
+    let answer = done .1 ∙ ap (λ (s : Station). stopOf s .answer) known in
+    (kept .0 ∙ ap coreOf after, (kept .1 .0 ∙ (c .before .before .before .before .before .switched-answer .ensures ∙ ap switchedAnswer answer), kept .1 .1 ∙ ap (λ (s : Station). s .members) after))
 
 pub stop-spec : {M : Type 1} → statement M
 stop-spec =
