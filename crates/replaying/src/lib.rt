@@ -4,7 +4,7 @@ mod parts;
 use commands::Command;
 use commands::Peek;
 use parts::digits_of;
-use parts::part_of;
+use reply_parts::part_of;
 use starting::Switching;
 use station::Station;
 use ticking::Ticking;
@@ -181,7 +181,7 @@ pub fn perform(
             ),
         ),
         Command::Peek(octets) => kept(station, peek(octets, memory, answer)),
-        Command::State => kept(station, replies::put_state(station, answer)),
+        Command::State => kept(station, reply_state::put_state(station, answer)),
         Command::Bad => kept(station, replies::put_bad(answer)),
     }
 }
