@@ -1,5 +1,5 @@
-// The parts that the lines of `replay` are put together from. Each is written from octet `at` of the output on, and the answer is the octet
-// behind it.
+// The parts that the lines of `replay` are put together from. A part that has a place `at` in the output is written from there on, and the
+// answer is the octet behind it.
 mod hex;
 
 pub use hex::put_hex;

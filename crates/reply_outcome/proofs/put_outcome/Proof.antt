@@ -4,9 +4,9 @@ use native.Mathlib.Omega.{arith}
 use lib.ListN.{length-append}
 use Rattle.text.specs.Lines.{lineFeed}
 use Rattle.reply_parts.specs.Lines.{ended}
-use Rattle.reply_outcome.specs.Room.{data-length}
-use Rattle.reply_outcome.specs.Outcome.{dataWord}
 use Rattle.reply_parts.specs.Written.{then, in-front}
+use Rattle.reply_outcome.specs.Outcome.{dataWord}
+use Rattle.reply_outcome.specs.Room.{data-length}
 use borrow.Author.Needs.{needs}
 use Rattle.reply_outcome.proofs.put_outcome.Statement.{statement}
 use Rattle.reply_outcome.proofs.put_outcome.Tie as tie
