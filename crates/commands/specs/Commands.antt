@@ -3,9 +3,12 @@ use Prim.Native.Nat.{ℕ, _+_}
 use mathlib.Core.Bool.{cond, _&&_}
 use mathlib.Core.List.{List, [], _∷_}
 use lib.Dec.{leb, ltb}
-use lib.ListN.{length, getD, drop}
-use Rattle.commands.specs.Octets.{octetsOf}
-use Rattle.commands.specs.Words.{space, begins, same, wordsBehind, numberIn}
+use lib.ListN.{length, getD, take, drop}
+use Rattle.input_line.specs.Gathering.{longest, sizeIn}
+use Rattle.input_line.specs.declared.Line.{Line}
+use Rattle.text.specs.Lines.{space}
+use Rattle.words.specs.Octets.{octetsOf}
+use Rattle.words.specs.Words.{begins, same, wordsBehind, numberIn}
 use Rattle.commands.specs.declared.Command.{Command}
 use Rattle.commands.specs.declared.Command.the-variants.{Start, Stop, Tick, Hear, Ask, Panel, Poke, Peek, State, Bad}
 
@@ -106,13 +109,18 @@ shortOf line =
     (cond (same state line) State
     (cond (same hear line) (Hear (record { digits = 5; count = 0 })) (numbered line)))))
 
--- The longest of these is a poke of the whole memory: `poke 0 ` and 34,816 digits. In a longer line a number is out of range, or more is
--- poked than there is room for, so it is bad outright.
-abbrev pub longest : ℕ
-longest = 34823
-
--- a line, without its line feed: "a line that is not a command of this form, or out of range, is `bad`"
+-- a line, without its line feed: "a line that is not a command of this form, or out of range, is `bad`". In a line that is longer than the
+-- longest of these a number is out of range, or more is poked than there is room for, so it is bad outright.
 abbrev pub commandOf : List ℕ → Command
 commandOf line =
     cond (begins hearSpace line) (hearOf (length (octetsOf (drop 5 line))))
     (cond (leb (length line) longest) (shortOf line) Bad)
+
+-- what a line that has come whole means, by what of it is stored
+abbrev pub commandBy : Line → List ℕ → Command
+commandBy line stored =
+    cond (begins hearSpace stored) (hearOf (sizeIn line))
+    (cond (leb (line .count) longest) (shortOf stored) Bad)
+
+abbrev pub commandIn : Line → List ℕ → Command
+commandIn line buffer = commandBy line (take (line .count) buffer)

@@ -1,53 +1,18 @@
 -- What is kept of a `hear` line, whatever its length, spells the first of its octets. Assumes nothing.
-use mathlib.Core.Path.{_≡_, refl, ap, sym, _∙_}
-use mathlib.Core.Bool.{Bool, true, false, cond, _&&_}
-use mathlib.Core.List.{List, [], _∷_}
-use Prim.Native.Nat.{ℕ, zero, suc, _+_, _*_, _%_, _≤_}
+use mathlib.Core.Path.{_≡_, ap, sym, _∙_}
+use mathlib.Core.Bool.{Bool, cond}
+use mathlib.Core.List.{List, []}
+use Prim.Native.Nat.{ℕ, _+_, _*_, _≤_}
 use native.Mathlib.Decide.{decLe}
 use native.Mathlib.Omega.{arith}
 use lib.ListN.{length, take, drop, length-take, length-drop, drop-of-length-le}
-use lib.Seq.{take-nil, take-all, take-take, take-add, drop-at, length-take-le}
-use borrow.Author.Tests.{le-leb, lt-leb, eq-eqb}
-use Rattle.laws.specs.Tests.{both, first}
-use Rattle.commands.specs.Commands.{kept, longest}
-use Rattle.commands.specs.Gathering.{fresh, bufferAll}
-use Rattle.commands.specs.Octets.{valueOf, isHexadecimal, allHexadecimal, octetsOf}
-use Rattle.commands.specs.OctetLaws.{even, proper, pairs, octets-by, octets-most}
+use lib.Seq.{take-all, take-take, take-add, drop-at, length-take-le}
+use borrow.Author.Tests.{le-leb, lt-leb}
+use Rattle.input_line.specs.Gathering.{longest, fresh, bufferAll}
+use Rattle.words.specs.OctetLaws.{octets-most, octets-first}
+use Rattle.words.specs.Octets.{octetsOf}
+use Rattle.commands.specs.Commands.{kept}
 use Rattle.commands.specs.Whole.{counted, counted-least, line-stored}
-
--- the first of some digits are digits
-all-first : (digits : List ℕ) (n : ℕ) → allHexadecimal digits ≡ true → allHexadecimal (take n digits) ≡ true
-all-first digits zero e = refl
-all-first [] (suc n) e = refl
-all-first (digit ∷ digits) (suc n) e = by (isHexadecimal digit) e (all-first digits n)
-  where
-    by : (t : Bool) → (t && allHexadecimal digits) ≡ true → (allHexadecimal digits ≡ true → allHexadecimal (take n digits) ≡ true) → (t && allHexadecimal (take n digits)) ≡ true
-    by true p more = more p
-    by false p more = p
-
-pairs-first : (digits : List ℕ) (n : ℕ) → pairs (take (2 * n) digits) ≡ take n (pairs digits)
-pairs-first digits zero = refl
-pairs-first [] (suc n) = ap pairs (take-nil (2 * suc n))
-pairs-first (digit ∷ []) (suc n) = ap pairs (take-all (2 * suc n) (digit ∷ []) (omega arith))
-pairs-first (high ∷ low ∷ digits) (suc n) =
-    let two : 2 * suc n ≡ suc (suc (2 * n)) = omega arith in
-    ap (λ (k : ℕ). pairs (take k (high ∷ low ∷ digits))) two ∙ ap (λ (rest : List ℕ). (valueOf high * 16 + valueOf low) ∷ rest) (pairs-first digits n)
-
--- two digits for each octet spell the first octets
-pub octets-first : (digits : List ℕ) (n : ℕ) → n ≤ length (octetsOf digits) → octetsOf (take (2 * n) digits) ≡ take n (octetsOf digits)
-octets-first digits zero h = refl
-octets-first digits (suc n) h = by (proper digits) refl (octets-by digits)
-  where
-    by : (t : Bool) → proper digits ≡ t → octetsOf digits ≡ cond t (pairs digits) [] → octetsOf (take (2 * suc n) digits) ≡ take (suc n) (octetsOf digits)
-    by false right e = absurd (omega (arith, ap length e))
-    by true right e =
-        let count : length (take (2 * suc n) digits) ≡ 2 * suc n = length-take-le (2 * suc n) digits (omega (arith, octets-most digits)) in
-        let pair : even (length (take (2 * suc n) digits)) ≡ true = ap even count ∙ eq-eqb (2 * suc n % 2) 0 (omega arith) in
-        let part : proper (take (2 * suc n) digits) ≡ true = both (all-first digits (2 * suc n) (first (allHexadecimal digits) (even (length digits)) right)) pair in
-        octets-by (take (2 * suc n) digits)
-        ∙ ap (λ (t : Bool). cond t (pairs (take (2 * suc n) digits)) []) part
-        ∙ pairs-first digits (suc n)
-        ∙ ap (take (suc n)) (sym e)
 
 take-behind : (list : List ℕ) (at n : ℕ) → at ≤ length list → take n (drop at list) ≡ drop at (take (at + n) list)
 take-behind list at n h = sym (ap (drop at) (take-add at n list) ∙ drop-at (take at list) (take n (drop at list)) at (length-take-le at list h))

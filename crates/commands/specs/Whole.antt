@@ -10,14 +10,14 @@ use lib.Dec.{eqb, leb, ltb}
 use lib.ListN.{length, set, take, drop, length-append, length-drop, length-set, drop-of-length-le}
 use lib.Seq.{take-nil, take-all, take-append-le, drop-append-le, take-suc-set, set-out}
 use borrow.Author.Tests.{lt-ltb, le-ltb, lt-leb, le-leb, eq-eqb, ne-eqb}
-use Rattle.commands.specs.Commands.{hearSpace, kept, hearOf, shortOf, longest, commandOf}
-use Rattle.commands.specs.Gathering.{fresh, countAfter, pushed, sizeIn, commandBy, commandIn, pushedAll, bufferAll}
-use Rattle.commands.specs.Octets.{isHexadecimal, allHexadecimal, octetsOf}
-use Rattle.commands.specs.OctetLaws.{even, octets-length}
-use Rattle.commands.specs.Words.{begins}
+use Rattle.input_line.specs.Gathering.{longest, fresh, countAfter, pushed, sizeIn, pushedAll, bufferAll}
+use Rattle.input_line.specs.declared.Line.{Line}
+use Rattle.commands.specs.Commands.{hearSpace, kept, hearOf, shortOf, commandOf, commandBy, commandIn}
+use Rattle.words.specs.Octets.{isHexadecimal, allHexadecimal, octetsOf}
+use Rattle.words.specs.OctetLaws.{even, octets-length}
+use Rattle.words.specs.Words.{begins}
 use Rattle.commands.specs.declared.Command.{Command}
 use Rattle.commands.specs.declared.Command.the-variants.{Hear, Bad}
-use Rattle.commands.specs.declared.Line.{Line}
 
 -- so many octets, as they are counted
 abbrev pub counted : ℕ → ℕ

@@ -1,23 +1,18 @@
-// What a line of the program `replay`'s input means. A line comes octet by octet, so that a line of any length needs no more memory than
-// the longest command that is not a `hear`.
-mod fields;
-mod hexadecimal;
-
+// What a line of the program `replay`'s input means.
 use area::Areas;
 use area::Part;
-use fields::begins;
-use fields::decimal;
-use fields::word_end;
-use hexadecimal::is_hexadecimal;
-use hexadecimal::size_of;
-pub use hexadecimal::unspell;
+use input_line::Line;
+use input_line::size_in;
 use station::Settings;
 use units::Milliseconds;
+use words::begins;
+use words::number_at;
+use words::same;
+use words::size_of;
+use words::word_end;
 ghost use mathlib.Core.Path.{_≡_};
-ghost use lib.ListN.{set, drop};
-ghost use Rattle.commands.specs.Gathering.{fresh, countAfter, pushed, scanned, bufferScanned, sizeIn, commandBy, commandIn};
-ghost use Rattle.commands.specs.Words.{same, numberAt, wordsBehind};
-ghost use Rattle.commands.specs.Commands.{startBy, startOf, tickOf, pokeBy, pokeOf, peekOf, hearOf, numbered, shortOf};
+ghost use Rattle.words.specs.Words.{wordsBehind};
+ghost use Rattle.commands.specs.Commands.{startBy, startOf, tickOf, pokeBy, pokeOf, peekOf, hearOf, numbered, shortOf, commandBy, commandIn};
 
 // Where the hexadecimal digits of a command start in its line, and how many of the octets that they spell are kept.
 pub struct Octets {
@@ -48,135 +43,6 @@ pub enum Command {
     Peek(Peek),
     State,
     Bad,
-}
-
-// A line so far: the number of its octets, at most 34,824, of which the first 34,823 are stored at the front of the buffer; whether all
-// octets from place 5 on are hexadecimal digits, and whether the number of these is odd.
-pub struct Line {
-    pub count: usize,
-    pub digits: bool,
-    pub odd: bool,
-}
-
-// What a part of a text did to a line: what has come of the line, the place in the text behind it, and whether the line has ended.
-pub struct Scanned {
-    pub line: Line,
-    pub next: usize,
-    pub ended: bool,
-}
-
-// A word of a line as a number, and the place where it ends: its space, or the line's end.
-struct Number {
-    value: u32,
-    end: usize,
-}
-
-pub fn begin() -> Line
-    ensures { λ r. ⌜ r ≡ fresh ⌝ }
-{
-    Line {
-        count: 0,
-        digits: true,
-        odd: false,
-    }
-}
-
-fn count_after(count: usize) -> usize
-    ensures { λ r. ⌜ r ≡ countAfter count ⌝ }
-{
-    if count <= 34823 { count + 1 } else { count }
-}
-
-fn store(count: usize, octet: u8, buffer: &mut [u8])
-    ensures { λ _. ⌜ now (buffer .exit) ≡ set (now (buffer .entry)) count octet ⌝ }
-{
-    if count < buffer.len() {
-        buffer[count] = octet;
-    }
-}
-
-// One more octet of the line.
-pub fn push(line: Line, octet: u8, buffer: &mut [u8]) -> Line
-    ensures { λ r. ⌜ r ≡ pushed line octet ⌝ }
-    ensures { λ _. ⌜ now (buffer .exit) ≡ set (now (buffer .entry)) (line .count) octet ⌝ }
-{
-    let count = line.count;
-    store(count, octet, buffer);
-    if count < 5 {
-        return Line {
-            count: count + 1,
-            digits: line.digits,
-            odd: line.odd,
-        };
-    }
-    Line {
-        count: count_after(count),
-        digits: line.digits & is_hexadecimal(octet),
-        odd: !line.odd,
-    }
-}
-
-// The octets of a text from place `from` on, up to its next line feed or its end.
-pub fn scan(line: Line, text: &[u8], from: usize, buffer: &mut [u8]) -> Scanned
-    ensures { λ r. ⌜ r ≡ scanned line from (drop from (now (text .entry))) ⌝ }
-    ensures { λ _. ⌜ now (buffer .exit) ≡ bufferScanned line (now (buffer .entry)) (drop from (now (text .entry))) ⌝ }
-{
-    let mut gathered = line;
-    let mut next = from;
-    while next < text.len() {
-        let octet = text[next];
-        next += 1;
-        if octet == b'\n' {
-            return Scanned {
-                line: gathered,
-                next,
-                ended: true,
-            };
-        }
-        gathered = push(gathered, octet, buffer);
-    }
-    Scanned {
-        line: gathered,
-        next,
-        ended: false,
-    }
-}
-
-// How many octets the digits from place 5 on spell.
-fn size_in(line: Line) -> usize
-    ensures { λ r. ⌜ r ≡ sizeIn line ⌝ }
-{
-    if line.digits & !line.odd {
-        if line.count < 5 {
-            return 0;
-        }
-        return (line.count - 5) / 2;
-    }
-    0
-}
-
-fn same(line: &[u8], word: &[u8]) -> bool
-    ensures { λ r. ⌜ r ≡ same (now (word .entry)) (now (line .entry)) ⌝ }
-{
-    (line.len() == word.len()) & begins(line, word)
-}
-
-// The word behind the space at a place.
-fn number_at(line: &[u8], place: usize) -> Number
-    ensures { λ r. ⌜ r ≡ numberAt (now (line .entry)) place ⌝ }
-{
-    if line.len() <= place {
-        return Number {
-            value: 1000001,
-            end: place,
-        };
-    }
-    let start = place + 1;
-    let end = word_end(line, start);
-    Number {
-        value: decimal(&line[start..end]),
-        end,
-    }
 }
 
 fn start_by(

@@ -1,6 +1,6 @@
 // Drives one station from text: one command a line on standard input, one answer a line on standard output. What a line means, what it does
-// and what is answered is decided by the libraries commands and replaying; here the input is only handed to them, part by part.
-use commands::Line;
+// and what is answered is decided by the libraries input_line, commands and replaying; here the input is only handed to them, part by part.
+use input_line::Line;
 use libc::STDIN_FILENO;
 use libc::STDOUT_FILENO;
 use station::Station;
@@ -62,12 +62,12 @@ fn replay_next(
     ensures { λ r. ⌜ going .at < r .at ⌝ }
 {
     let station = going.station;
-    let scanned = commands::scan(going.line, part, going.at, stored);
+    let scanned = input_line::scan(going.line, part, going.at, stored);
     let line = scanned.line;
     if scanned.ended {
         let answered = answer_line(station, line, stored, memory, assembly, turn, frame);
         let station = answered.station;
-        let line = commands::begin();
+        let line = input_line::begin();
         return Going {
             station,
             line,
@@ -151,7 +151,7 @@ fn replay_all(
 ) -> Line {
     let mut going = Going {
         station: states::never(),
-        line: commands::begin(),
+        line: input_line::begin(),
         at: 0,
         on: true,
     };

@@ -9,16 +9,17 @@ use lib.Dec.{leb, ltb}
 use lib.ListN.{length, getD, take, drop, length-drop}
 use lib.Seq.{take-all}
 use borrow.Author.Tests.{leb-true, le-leb, lt-leb}
-use Rattle.commands.specs.Commands.{stop, ask, panel, state, hear, hearSpace, startSpace, tickSpace, pokeSpace, peekSpace, startBy, startOf, tickOf, peekOf, pokeOf, kept as keptOf, hearOf as hearCommand, shortOf, longest, commandOf}
-use Rattle.commands.specs.Gathering.{fresh, commandIn, pushedAll, bufferAll}
-use Rattle.commands.specs.Kept.{octets-first, part-stored, heard-kept}
-use Rattle.commands.specs.OctetLaws.{octets-most}
-use Rattle.commands.specs.Octets.{octetsOf}
+use Rattle.commands.specs.Commands.{stop, ask, panel, state, hear, hearSpace, startSpace, tickSpace, pokeSpace, peekSpace, startBy, startOf, tickOf, peekOf, pokeOf, kept as keptOf, hearOf as hearCommand, shortOf, commandOf, commandIn}
+use Rattle.commands.specs.Kept.{part-stored, heard-kept}
+use Rattle.words.specs.OctetLaws.{octets-most, octets-first}
+use Rattle.words.specs.Octets.{octetsOf}
 use Rattle.commands.specs.Whole.{line-read}
-use Rattle.commands.specs.WordLaws.{word-at, word-length, no-words, end-place}
-use Rattle.commands.specs.Words.{space, begins, same, wordsBehind, numberIn, endOf}
+use Rattle.words.specs.WordLaws.{word-at, word-length, no-words, end-place}
+use Rattle.text.specs.Lines.{space}
+use Rattle.words.specs.Words.{begins, same, wordsBehind, numberIn, endOf}
 use Rattle.commands.specs.declared.Command.{Command}
 use Rattle.commands.specs.declared.Command.the-variants.{Start, Stop, Tick, Hear, Ask, Panel, Peek, State, Bad}
+use Rattle.input_line.specs.Gathering.{longest, fresh, pushedAll, bufferAll}
 use Rattle.settle_input.specs.Form.{before-most}
 use Rattle.station.specs.Hearing.{hearOf}
 use Rattle.replaying.specs.Cut.{hear-cut}

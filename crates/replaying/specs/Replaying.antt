@@ -2,11 +2,12 @@
 use Prim.Native.Nat.{ℕ, zero, suc, _-_, _*_}
 use mathlib.Core.List.{List}
 use lib.ListN.{length, take, drop}
-use Rattle.commands.specs.Octets.{octetsOf}
+use Rattle.words.specs.Octets.{octetsOf}
 use Rattle.commands.specs.declared.Command.{Command}
 use Rattle.commands.specs.declared.Command.the-variants.{Start, Stop, Tick, Hear, Ask, Panel, Poke, Peek, State, Bad}
 use Rattle.copying.specs.Pasted.{pasted}
-use Rattle.replies.specs.Replies.{doneText, badText, switchedText, tickedText, heardText, askedText, panelText, octetsText, stateText}
+use Rattle.replies.specs.Replies.{doneText, badText, switchedText, tickedText, heardText, askedText, panelText, octetsText}
+use Rattle.reply_state.specs.State.{stateText}
 use Rattle.station.specs.Asking.{Asking, askOf}
 use Rattle.station.specs.Hearing.{Hearing, hearOf}
 use Rattle.station.specs.Showing.{figureShown}

@@ -3,6 +3,9 @@ use Prim.Native.Nat.{ℕ}
 use mathlib.Core.List.{List, [], _∷_, _++_}
 use Rattle.text.specs.Decimal.{decimalOf}
 
+abbrev pub space : ℕ
+space = 0x20
+
 abbrev pub comma : ℕ
 comma = 0x2c
 

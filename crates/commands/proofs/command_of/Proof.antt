@@ -4,7 +4,7 @@ use Prim.Native.Nat.{ℕ}
 use native.Mathlib.Nat.{sub-zero}
 use lib.ListN.{take}
 use lib.Seq.{take-all}
-use Rattle.commands.specs.Gathering.{commandBy}
+use Rattle.commands.specs.Commands.{commandBy}
 use borrow.Author.Needs.{needs}
 use Rattle.commands.proofs.command_of.Statement.{statement}
 use Rattle.commands.proofs.command_of.Tie as tie

@@ -12,11 +12,12 @@ use borrow.Author.Tests.{le-leb, lt-leb, lt-ltb, leb-true}
 use Rattle.laws.specs.Lists.{to-end}
 use Rattle.settle_input.specs.Input.{before}
 use Rattle.commands.specs.Commands.{pokeBy, pokeOf}
-use Rattle.commands.specs.Octets.{octetsOf}
-use Rattle.commands.specs.WordLaws.{first-word, end-place, no-end, placeOf, word-at, ended-at, read-at}
-use Rattle.commands.specs.Words.{space, numberIn, endOf, numberAt, wordsBehind}
+use Rattle.words.specs.Octets.{octetsOf}
+use Rattle.words.specs.WordLaws.{first-word, end-place, no-end, placeOf, word-at, ended-at, read-at}
+use Rattle.text.specs.Lines.{space}
+use Rattle.words.specs.Words.{numberIn, endOf, numberAt, wordsBehind}
 use Rattle.commands.specs.declared.Command.the-variants.{Poke, Bad}
-use Rattle.commands.specs.declared.Number.{Number}
+use Rattle.words.specs.declared.Number.{Number}
 use borrow.Author.Needs.{needs}
 use Rattle.commands.proofs.poke_of.Statement.{statement}
 use Rattle.commands.proofs.poke_of.Tie as tie

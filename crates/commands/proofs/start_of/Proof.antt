@@ -7,10 +7,10 @@ use lib.Dec.{leb}
 use lib.ListN.{length}
 use borrow.Author.Tests.{le-leb, lt-leb}
 use Rattle.commands.specs.Commands.{startBy, startOf}
-use Rattle.commands.specs.WordLaws.{read-at, ended-at}
-use Rattle.commands.specs.Words.{numberIn, numberAt, wordsBehind}
+use Rattle.words.specs.WordLaws.{read-at, ended-at}
+use Rattle.words.specs.Words.{numberIn, numberAt, wordsBehind}
 use Rattle.commands.specs.declared.Command.the-variants.{Bad}
-use Rattle.commands.specs.declared.Number.{Number}
+use Rattle.words.specs.declared.Number.{Number}
 use borrow.Author.Needs.{needs}
 use Rattle.commands.proofs.start_of.Statement.{statement}
 use Rattle.commands.proofs.start_of.Tie as tie

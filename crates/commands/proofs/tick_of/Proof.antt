@@ -6,10 +6,10 @@ use Prim.Native.Nat.{ℕ}
 use lib.Dec.{leb}
 use lib.ListN.{length}
 use Rattle.commands.specs.Commands.{tickOf}
-use Rattle.commands.specs.WordLaws.{read-at, ended-at}
-use Rattle.commands.specs.Words.{numberIn, numberAt, wordsBehind}
+use Rattle.words.specs.WordLaws.{read-at, ended-at}
+use Rattle.words.specs.Words.{numberIn, numberAt, wordsBehind}
 use Rattle.commands.specs.declared.Command.the-variants.{Tick, Bad}
-use Rattle.commands.specs.declared.Number.{Number}
+use Rattle.words.specs.declared.Number.{Number}
 use borrow.Author.Needs.{needs}
 use Rattle.commands.proofs.tick_of.Statement.{statement}
 use Rattle.commands.proofs.tick_of.Tie as tie

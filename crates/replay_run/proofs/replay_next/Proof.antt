@@ -3,10 +3,10 @@ use mathlib.Core.Path.{_≡_, ap, _∙_}
 use mathlib.Core.List.{List}
 use Prim.Native.Nat.{ℕ, suc, _<_}
 use lib.ListN.{length, drop, getD}
-use Rattle.commands.specs.Gathering.{scanned}
-use Rattle.commands.specs.Scans.{scan-forward}
-use Rattle.commands.specs.declared.Line.{Line}
-use Rattle.commands.specs.declared.Scanned.{Scanned}
+use Rattle.input_line.specs.Gathering.{scanned}
+use Rattle.input_line.specs.Scans.{scan-forward}
+use Rattle.input_line.specs.declared.Line.{Line}
+use Rattle.input_line.specs.declared.Scanned.{Scanned}
 use lib.Seq.{drop-cons}
 use borrow.Author.Needs.{needs}
 use Rattle.replay_run.proofs.replay_next.Statement.{statement}

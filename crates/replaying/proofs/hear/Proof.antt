@@ -5,7 +5,7 @@ use Prim.Native.Nat.{ℕ, _-_}
 use native.Mathlib.Omega.{arith}
 use native.Mathlib.Nat.{sub-zero}
 use lib.ListN.{length, take, replicate, length-take}
-use Rattle.commands.specs.Octets.{octetsOf}
+use Rattle.words.specs.Octets.{octetsOf}
 use Rattle.copying.specs.Pasted.{pasted}
 use Rattle.replaying.specs.Cut.{hear-cut}
 use Rattle.replies.specs.Replies.{heardText}

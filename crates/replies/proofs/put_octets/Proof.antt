@@ -2,10 +2,10 @@
 use mathlib.Core.List.{[], _∷_}
 use native.Mathlib.Omega.{arith}
 use Rattle.text.specs.Lines.{lineFeed}
-use Rattle.replies.specs.Hex.{hexOf}
+use Rattle.reply_parts.specs.Hex.{hexOf}
 use Rattle.replies.specs.Replies.{octetsText}
-use Rattle.replies.specs.Room.{hex-length}
-use Rattle.replies.specs.Written.{then, in-front}
+use Rattle.reply_parts.specs.HexLaws.{hex-length}
+use Rattle.reply_parts.specs.Written.{then, in-front}
 use borrow.Author.Needs.{needs}
 use Rattle.replies.proofs.put_octets.Statement.{statement}
 use Rattle.replies.proofs.put_octets.Tie as tie

@@ -8,7 +8,7 @@ use Rattle.copying.specs.Pasted.{pasted}
 use Rattle.panel.specs.Panel.{textOf}
 use Rattle.panel.specs.Texts.{shown-text}
 use Rattle.panel.specs.declared.Text.{Text}
-use Rattle.replies.specs.Replies.{ended}
+use Rattle.reply_parts.specs.Lines.{ended}
 use borrow.Author.Needs.{needs}
 use Rattle.replies.proofs.put_panel.Statement.{statement}
 use Rattle.replies.proofs.put_panel.Tie as tie

@@ -3,10 +3,10 @@ use mathlib.Core.List.{[], _∷_, _++_}
 use native.Mathlib.Omega.{arith}
 use Rattle.text.specs.Decimal.{decimalOf}
 use Rattle.text.specs.Digits.{at-most}
-use Rattle.text.specs.Lines.{lineFeed}
-use Rattle.replies.specs.Replies.{ended}
-use Rattle.replies.specs.Words.{space, refusedWord}
-use Rattle.replies.specs.Written.{then, in-front}
+use Rattle.text.specs.Lines.{space, lineFeed}
+use Rattle.reply_parts.specs.Lines.{ended}
+use Rattle.replies.specs.Words.{refusedWord}
+use Rattle.reply_parts.specs.Written.{then, in-front}
 use borrow.Author.Needs.{needs}
 use Rattle.replies.proofs.put_refused.Statement.{statement}
 use Rattle.replies.proofs.put_refused.Tie as tie
