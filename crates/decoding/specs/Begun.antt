@@ -1,12 +1,12 @@
 -- A line has begun as soon as one octet of it has come. Assumes nothing.
 use mathlib.Core.Path.{_≡_, refl}
-use mathlib.Core.Bool.{Bool, true, false, cond}
+use mathlib.Core.Bool.{true}
 use mathlib.Core.List.{List, [], _∷_}
-use Prim.Native.Nat.{ℕ, _+_, _<_, _≤_}
+use Prim.Native.Nat.{ℕ, _<_}
 use native.Mathlib.Decide.{decLt}
 use native.Mathlib.Omega.{arith}
-use borrow.Author.Tests.{lt-ltb, le-ltb, ltb-true}
-use Rattle.decoding.specs.Gathering.{fresh, countAfter, placed, pushedBy, pushed, begun, begunBy}
+use borrow.Author.Tests.{lt-ltb, le-ltb}
+use Rattle.decoding.specs.Gathering.{countAfter, pushedBy, pushed, begun}
 use Rattle.decoding.specs.Hexadecimal.{digitOf}
 use Rattle.decoding.specs.Line.{pushedAll}
 use Rattle.decoding.specs.declared.Gathered.{Gathered}

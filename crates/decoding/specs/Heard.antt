@@ -1,13 +1,11 @@
 -- A line that came octet by octet, into a buffer of 1121 octets or more, is answered as the whole line is: a frame of more octets than the
 -- buffer has is refused like one that just does not fit. Assumes nothing.
 use mathlib.Core.Path.{_≡_, refl, ap, sym, _∙_}
-use mathlib.Core.Bool.{Bool, true, false, cond}
 use mathlib.Core.List.{List, [], _∷_, _++_, append-nil, append-assoc}
-use Prim.Native.Nat.{ℕ, suc, _+_, _*_, _≤_, _<_}
+use Prim.Native.Nat.{ℕ, _+_, _*_, _≤_, _<_}
 use native.Mathlib.Decide.{decLe, decLt}
 use native.Mathlib.Numerals.{add-one}
 use native.Mathlib.Omega.{arith}
-use lib.Dec.{ltb}
 use lib.ListN.{length, take, set, length-set}
 use lib.Seq.{length-take-le, take-all, take-append-le, take-suc-set, set-out}
 use borrow.Author.Tests.{lt-ltb, le-ltb, lt-leb, le-leb}
@@ -15,7 +13,7 @@ use Rattle.frame.specs.declared.Refusal.the-variants.{Cut}
 use Rattle.reading.specs.Reading.{readOf}
 use Rattle.reading.specs.declared.Read.the-variants.{Refused}
 use Rattle.decoding.specs.Digits.{Below, digit-below}
-use Rattle.decoding.specs.Gathering.{fresh, octetOf, countAfter, pushedBy, bufferBy, pushed, answerBy, answered}
+use Rattle.decoding.specs.Gathering.{fresh, octetOf, countAfter, pushedBy, bufferBy, answerBy, answered}
 use Rattle.decoding.specs.Hexadecimal.{Spelled, octets, neither, joined, spelled, digitOf}
 use Rattle.decoding.specs.Line.{answerFor, lineAnswer, pushedAll, bufferAll}
 use Rattle.decoding.specs.declared.Answer.{Answer}

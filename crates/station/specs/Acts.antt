@@ -5,7 +5,6 @@ use mathlib.Core.Bool.{true, false}
 use mathlib.Core.List.{List, []}
 use Prim.Native.Nat.{ℕ, zero, suc}
 use native.Mathlib.Decide.{ℕ-discrete}
-use lib.Dec.{eqb}
 use lib.ListN.{getD, replicate}
 use borrow.Author.Tests.{eq-eqb, ne-eqb}
 use Rattle.area.specs.declared.Areas.{Areas}
@@ -25,7 +24,6 @@ use Rattle.station.specs.Token.{viewAfter}
 use Rattle.station.specs.declared.Data.the-variants.{Kept, Written}
 use Rattle.station.specs.declared.Heard.the-variants as answers
 use Rattle.station.specs.declared.Phase.the-variants.{Startup, Listening}
-use Rattle.station.specs.declared.Settings.{Settings}
 use Rattle.station.specs.declared.Station.{Station}
 use Rattle.station.specs.declared.Token.the-variants as tokens
 use Rattle.units.specs.declared.Milliseconds.{Milliseconds}

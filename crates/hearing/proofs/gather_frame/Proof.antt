@@ -7,10 +7,6 @@ use Rattle.hearing.specs.Body.{in-range, data-fit}
 use borrow.Author.Needs.{needs}
 use Rattle.hearing.proofs.gather_frame.Statement.{statement}
 use Rattle.hearing.proofs.gather_frame.Tie as tie
-use Rattle.hearing.proofs.gather_frame.Reads as reads
-use Rattle.hearing.proofs.gather_frame.Lts as lts
-use Rattle.gathering.proofs.gather.Reads as gather-reads
-use Rattle.reading.proofs.data_of.Reads as data-of-reads
 
 -- src/lib.rt:95:9
 data-of-requires : tie.Need-data-of-requires

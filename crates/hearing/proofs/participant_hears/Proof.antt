@@ -2,14 +2,6 @@ use mathlib.Core.Path.{_∙_}
 use borrow.Author.Needs.{needs}
 use Rattle.hearing.proofs.participant_hears.Statement.{statement}
 use Rattle.hearing.proofs.participant_hears.Tie as tie
-use Rattle.hearing.proofs.participant_hears.Reads as reads
-use Rattle.hearing.proofs.participant_hears.Lts as lts
-use Rattle.hearing.proofs.gather_frame.Reads as gather-frame-reads
-use Rattle.hearing.proofs.token.outcome_of.Reads as outcome-of-reads
-use Rattle.hearing.proofs.token.view_heard.Reads as view-heard-reads
-use Rattle.members.proofs.clear.Reads as clear-reads
-use Rattle.members.proofs.entry_of.Reads as entry-of-reads
-use Rattle.states.proofs.restart.Reads as restart-reads
 
 -- src/lib.rt:118:9
 entry-of-requires : tie.Need-entry-of-requires

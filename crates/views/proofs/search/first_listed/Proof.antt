@@ -8,8 +8,6 @@ use Rattle.views.specs.Views.{firstListed}
 use Rattle.views.specs.Loops.{listed-end, listed-skip, listed-first}
 use Rattle.views.proofs.search.first_listed.Statement.{statement}
 use Rattle.views.proofs.search.first_listed.Tie as tie
-use Rattle.views.proofs.search.first_listed.Reads as reads
-use Rattle.views.proofs.search.first_listed.Lts as lts
 
 abbrev Inv-loop : tie.InvT-loop
 Inv-loop from otherwise views number₀ number = firstListed number (drop number views) otherwise ≡ firstListed from (drop from views) otherwise
