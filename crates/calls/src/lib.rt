@@ -4,6 +4,7 @@ use boundary::Outcome;
 use boundary::Shown;
 use frame::Fields;
 use reading::Read;
+use station::Ticked;
 pub use whole::start;
 pub use whole::stop;
 ghost use mathlib.Core.Path.{_≡_};
@@ -47,6 +48,18 @@ pub fn tick(
         return Outcome {
             core: boundary::quiet(core),
             answer: boundary::done(),
+        };
+    }
+    if waiting::is_waiting(core) {
+        return Outcome {
+            core: waiting::count(core),
+            answer: boundary::done(),
+        };
+    }
+    if core.phase == 0 {
+        return Outcome {
+            core,
+            answer: boundary::ticked_answer(Ticked::Off),
         };
     }
     whole::tick(core, listed, areas, watch, misses)

@@ -11,7 +11,7 @@ use units::Ticks;
 ghost use mathlib.Core.Path.{_≡_};
 ghost use mathlib.Core.Bool.{cond, _&&_};
 ghost use Prim.Native.Nat.{_+_};
-ghost use lib.Dec.{eqb, leb};
+ghost use lib.Dec.{eqb, leb, ltb};
 ghost use Rattle.members.specs.Members.{numbersOf, isListed, strikes};
 ghost use Rattle.station.specs.Data.{without as withoutOf};
 ghost use Rattle.station.specs.Starting.{startedUp};
@@ -38,14 +38,21 @@ fn count(station: Station, own: Settings, elapsed: Ticks, waited: Ticks, panel: 
     }
 }
 
+// Whether a tick that took a wait from one count to another ends the wait for our number.
+pub fn wait_ends(number: u8, before: Ticks, after: Ticks) -> bool
+    ensures { λ r. ⌜ r ≡ (ltb (before .0) (numberWait number) && leb (numberWait number) (after .0)) ⌝ }
+{
+    let wait = states::number_wait(number);
+    (before.0 < wait.0) & (wait.0 <= after.0)
+}
+
 // Our settings after a tick that took a wait from one count to another.
 fn falls_due(station: Station, before: Ticks, after: Ticks) -> Settings
     ensures { λ r. ⌜ r ≡ fallsDue station before after ⌝ }
 {
     let own = station.own;
     let members = station.members;
-    let wait = states::number_wait(own.number);
-    if (before.0 < wait.0) & (wait.0 <= after.0) {
+    if wait_ends(own.number, before, after) {
         starting::own_due(own, members)
     } else {
         own
@@ -80,13 +87,11 @@ fn startup_tick(station: Station, elapsed: Ticks) -> Station
 }
 
 // In joining, the wait for our number runs from the end of the third round.
-fn waited_then(station: Station) -> Ticks
-    ensures { λ r. ⌜ r ≡ cond (eqb (station .rounds) 3) (later (numberWait (station .own .number)) (station .waited)) (station .waited) ⌝ }
+pub fn waited_then(number: u8, rounds: u8, waited: Ticks) -> Ticks
+    ensures { λ r. ⌜ r ≡ cond (eqb rounds 3) (later (numberWait number) waited) waited ⌝ }
 {
-    let own = station.own;
-    let waited = station.waited;
-    if station.rounds == 3 {
-        states::later(states::number_wait(own.number), waited)
+    if rounds == 3 {
+        states::later(states::number_wait(number), waited)
     } else {
         waited
     }
@@ -101,7 +106,7 @@ fn joining_tick(station: Station, elapsed: Ticks) -> Station
         return states::fresh(Phase::Listening, own);
     }
     let before = station.waited;
-    let after = waited_then(station);
+    let after = waited_then(own.number, station.rounds, before);
     let due = falls_due(station, before, after);
     let panel = station.panel;
     count(station, due, elapsed, after, panel)

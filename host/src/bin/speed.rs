@@ -29,9 +29,7 @@ struct Host<E> {
 }
 
 impl<E: Engine + Default> Host<E> {
-    /// A participant by ring startup with these others; the first in view is the one with the
-    /// smallest number.
-    fn participant(own: Settings, others: &[Settings]) -> Host<E> {
+    fn started(own: Settings) -> Host<E> {
         let mut made = Host {
             station: E::default(),
             memory: vec![1; MEMORY],
@@ -39,8 +37,15 @@ impl<E: Engine + Default> Host<E> {
             turn: vec![3; MEMORY],
             output: vec![4; OUTPUT],
         };
-        let mut random = Random::new(u64::from(own.number));
         made.station.start(own.into());
+        made
+    }
+
+    /// A participant by ring startup with these others; the first in view is the one with the
+    /// smallest number.
+    fn participant(own: Settings, others: &[Settings]) -> Host<E> {
+        let mut made = Host::started(own);
+        let mut random = Random::new(u64::from(own.number));
         let heard = others
             .iter()
             .map(|other| Frame::request(other.number, other.areas));
@@ -110,6 +115,12 @@ fn tick<E: Engine + Default>() -> impl FnMut() -> f64 {
         (0..2000).for_each(|_| station.tick());
         station.hear(&block);
     })
+}
+
+/// A station that listens, and hears nothing.
+fn tick_listening<E: Engine + Default>() -> impl FnMut() -> f64 {
+    let mut station = Host::<E>::started(share(1, 512));
+    measurement(20, 2000, move || (0..2000).for_each(|_| station.tick()))
 }
 
 /// Hears these frames in turn, with the same outcome each time.
@@ -232,6 +243,12 @@ fn main() {
         "call", "proved", "model", "ratio"
     );
     line("tick", NANOSECOND, tick::<Station>(), tick::<Model>());
+    line(
+        "tick of a station that listens",
+        NANOSECOND,
+        tick_listening::<Station>(),
+        tick_listening::<Model>(),
+    );
     line(
         "hear a token frame, 1024 octets written",
         NANOSECOND,

@@ -1,10 +1,10 @@
 -- `calls::tick` meets its contract.
 use Rattle.boundary.specs.Numbers.{tickedAnswer}
 use Rattle.station.specs.Ticking.{Ticking}
-use mathlib.Core.Path.{ap}
-use mathlib.Core.Path.{sym, _∙_}
+use mathlib.Core.Path.{ap, sym, _∙_}
 use Rattle.lists.specs.Lists.{membersIn}
 use Rattle.boundary.specs.Quick.{quiet-tick, quiet-core}
+use Rattle.waiting.specs.Ticks.{counts, stays-off}
 use borrow.Author.Needs.{needs}
 use Rattle.calls.proofs.tick.Statement.{statement}
 use Rattle.calls.proofs.tick.Tie as tie
@@ -28,13 +28,55 @@ returns c =
       (c .done .ensures ∙ sym (ap (λ (t : Ticking). tickedAnswer (t .answer)) law), sym (ap (λ (t : Ticking). t .station .members) law)),
     )
 
+is-waiting-requires : tie.Need-is-waiting-requires
+is-waiting-requires c κs = search needs
+
+count-requires : tie.Need-count-requires
+count-requires c κs = search needs
+
+done-requires-2 : tie.Need-done-requires-2
+done-requires-2 c κs = search needs
+
+returns-2 : tie.Need-returns-2
+returns-2 c =
+    let a = c .before .before .before .before .before .before .args in
+    let members = membersIn (a .listed .now) (a .areas .now) (a .watch .now) (a .misses .now) in
+    let law = counts (a .core) members (sym (c .before .before .before .is-waiting .ensures) ∙ c .before .before .if2 .taken) in (
+      c .before .count .ensures ∙ sym (law .1),
+      (c .done2 .ensures ∙ sym (ap (λ (t : Ticking). tickedAnswer (t .answer)) (law .0)), sym (ap (λ (t : Ticking). t .station .members) (law .0))),
+    )
+
+ticked-answer-requires : tie.Need-ticked-answer-requires
+ticked-answer-requires c κs = search needs
+
+returns-3 : tie.Need-returns-3
+returns-3 c =
+    let a = c .before .before .before .before .before .before .before .args in
+    let members = membersIn (a .listed .now) (a .areas .now) (a .watch .now) (a .misses .now) in
+    let law = stays-off (a .core) members (c .before .if3 .taken) in (
+      sym (law .1),
+      (c .ticked-answer .ensures ∙ sym (ap (λ (t : Ticking). tickedAnswer (t .answer)) (law .0)), sym (ap (λ (t : Ticking). t .station .members) (law .0))),
+    )
+
 tick-requires : tie.Need-tick-requires
 tick-requires c κs = search needs
 
-returns-2 : tie.Need-returns-2
-returns-2 c = search needs
+returns-4 : tie.Need-returns-4
+returns-4 c = search needs
 
 pub tick-spec : {M : Type 1} → statement M
 tick-spec =
     tie.close
-    (tie.spec is-quiet-requires quiet-requires done-requires returns tick-requires returns-2)
+    (tie.spec
+    is-quiet-requires
+    quiet-requires
+    done-requires
+    returns
+    is-waiting-requires
+    count-requires
+    done-requires-2
+    returns-2
+    ticked-answer-requires
+    returns-3
+    tick-requires
+    returns-4)

@@ -4,17 +4,17 @@ use borrow.Author.Needs.{needs}
 use Rattle.ticking.proofs.falls_due.Statement.{statement}
 use Rattle.ticking.proofs.falls_due.Tie as tie
 
-number-wait-requires : tie.Need-number-wait-requires
-number-wait-requires c κs = search needs
+wait-ends-requires : tie.Need-wait-ends-requires
+wait-ends-requires c κs = search needs
 
 own-due-requires : tie.Need-own-due-requires
 own-due-requires c κs = search needs
 
 returns : tie.Need-returns
-returns c = c .own-due .ensures ∙ rw (← c .before .before .before .before .before .before .number-wait .ensures, c .before .if1 .taken)
+returns c = c .own-due .ensures ∙ rw (← c .before .before .wait-ends .ensures, c .before .if1 .taken)
 
 returns-2 : tie.Need-returns-2
-returns-2 c = rw (← c .before .before .before .before .before .number-wait .ensures, c .if1 .left)
+returns-2 c = rw (← c .before .wait-ends .ensures, c .if1 .left)
 
 pub falls-due-spec : {M : Type 1} → statement M
-falls-due-spec = tie.close (tie.spec number-wait-requires own-due-requires returns returns-2)
+falls-due-spec = tie.close (tie.spec wait-ends-requires own-due-requires returns returns-2)

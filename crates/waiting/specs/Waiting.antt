@@ -1,0 +1,47 @@
+-- The ticks of a station that does not participate yet, on its core: those that only count, which are all but the ones that end a wait. A core's
+-- phase is a number: 1 listening, 2 ring startup, 3 joining.
+use Prim.Native.Nat.{ℕ}
+use mathlib.Core.Bool.{Bool, cond, not, _&&_, _||_}
+use lib.Dec.{eqb, leb, ltb}
+use Rattle.station.specs.Ticking.{later}
+use Rattle.station.specs.Waits.{detectionWait, acceptanceTime, numberWait, listeningTime}
+use Rattle.units.specs.declared.Ticks.{Ticks}
+use Rattle.boundary.specs.declared.Core.{Core}
+
+-- what the phase's ticks are counted up to
+abbrev pub limitOf : ℕ → ℕ → ℕ
+limitOf phase number = cond (eqb phase 1) (listeningTime number) (cond (eqb phase 2) acceptanceTime detectionWait)
+
+-- in joining, the wait for our number runs from the end of the third round
+abbrev pub waitedThen : Core → Ticks
+waitedThen core = cond (eqb (core .rounds) 3) (later (numberWait (core .own .number)) (core .waited)) (core .waited)
+
+-- the wait for our number ends in a tick from one count to another
+abbrev pub waitEnds : Core → Ticks → Ticks → Bool
+waitEnds core before after = ltb (before .0) (numberWait (core .own .number)) && leb (numberWait (core .own .number)) (after .0)
+
+-- in ring startup and in joining, what ends with the next tick
+abbrev pub startupEnds : Core → Bool
+startupEnds core = leb acceptanceTime (later acceptanceTime (core .elapsed) .0) || waitEnds core (core .elapsed) (later acceptanceTime (core .elapsed))
+
+abbrev pub joiningEnds : Core → Bool
+joiningEnds core = leb detectionWait (later detectionWait (core .elapsed) .0) || waitEnds core (core .waited) (waitedThen core)
+
+-- the next tick only counts
+abbrev pub isWaiting : Core → Bool
+isWaiting core = eqb (core .phase) 1 || ((eqb (core .phase) 2 && not (startupEnds core)) || (eqb (core .phase) 3 && not (joiningEnds core)))
+
+-- the core after it
+abbrev pub waitedCore : Core → Core
+waitedCore core = record {
+  phase = core .phase;
+  own = core .own;
+  elapsed = later (limitOf (core .phase) (core .own .number)) (core .elapsed);
+  waited = cond (eqb (core .phase) 3) (waitedThen core) (core .waited);
+  rounds = core .rounds;
+  sent = core .sent;
+  view = core .view;
+  block = core .block;
+  gathering = core .gathering;
+  panel = core .panel;
+}

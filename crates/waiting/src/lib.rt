@@ -1,0 +1,81 @@
+// The ticks of a station that does not participate yet, on its core alone, where they only count.
+use boundary::Core;
+use units::Ticks;
+ghost use mathlib.Core.Path.{_≡_};
+ghost use mathlib.Core.Bool.{cond};
+ghost use lib.Dec.{eqb};
+ghost use Rattle.waiting.specs.Waiting.{limitOf, waitedThen, startupEnds, joiningEnds, isWaiting, waitedCore};
+
+// What the phase's ticks are counted up to.
+fn limit(phase: u8, number: u8) -> Ticks
+    ensures { λ r. ⌜ r .0 ≡ limitOf phase number ⌝ }
+{
+    if phase == 1 {
+        return states::listening_time(number);
+    }
+    if phase == 2 {
+        return states::acceptance_time();
+    }
+    states::detection_wait()
+}
+
+fn startup_ends(core: Core) -> bool
+    ensures { λ r. ⌜ r ≡ startupEnds core ⌝ }
+{
+    let number = core.own.number;
+    let before = core.elapsed;
+    let time = states::acceptance_time();
+    let after = states::later(time, before);
+    (time.0 <= after.0) | ticking::wait_ends(number, before, after)
+}
+
+fn joining_ends(core: Core) -> bool
+    ensures { λ r. ⌜ r ≡ joiningEnds core ⌝ }
+{
+    let number = core.own.number;
+    let elapsed = core.elapsed;
+    let waited = core.waited;
+    let time = states::detection_wait();
+    let after = states::later(time, elapsed);
+    (time.0 <= after.0)
+        | ticking::wait_ends(
+            number,
+            waited,
+            ticking::waited_then(number, core.rounds, waited),
+        )
+}
+
+// Whether the next tick only counts.
+pub fn is_waiting(core: Core) -> bool
+    ensures { λ r. ⌜ r ≡ isWaiting core ⌝ }
+{
+    (core.phase == 1)
+        | (((core.phase == 2) & !startup_ends(core)) | ((core.phase == 3) & !joining_ends(core)))
+}
+
+fn waited_by(core: Core) -> Ticks
+    ensures { λ r. ⌜ r ≡ cond (eqb (core .phase) 3) (waitedThen core) (core .waited) ⌝ }
+{
+    let number = core.own.number;
+    let waited = core.waited;
+    if core.phase == 3 {
+        ticking::waited_then(number, core.rounds, waited)
+    } else {
+        waited
+    }
+}
+
+// The core after a tick that only counts.
+pub fn count(core: Core) -> Core
+    ensures { λ r. ⌜ r ≡ waitedCore core ⌝ }
+{
+    let number = core.own.number;
+    let before = core.elapsed;
+    let elapsed = states::later(limit(core.phase, number), before);
+    let waited = waited_by(core);
+    Core {
+        elapsed,
+        waited,
+        ..core
+    }
+}
