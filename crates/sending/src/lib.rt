@@ -22,7 +22,7 @@ ghost use Rattle.reading.specs.Reading.{dataSize};
 ghost use Rattle.station.specs.Asking.{placedIn, nextFields, turnFor};
 ghost use Rattle.writing.specs.Writing.{wholeLength, fixed, outputOf};
 
-// Writes the frame of a block that has its data in front of `octets`: as `write` does, but without a struct in memory (`write_header`).
+// Writes the frame of a block that has its data in front of `octets`: what `writing::write_frame` would write, without a struct in memory.
 fn write_block(fields: Fields, octets: &[u8], output: &mut [u8]) -> usize
     requires { ⌜ fixed fields ≡ fields ⌝ }
     requires { ⌜ dataSize fields ≡ fields .size ⌝ }
