@@ -12,7 +12,7 @@ fn put(source: &[u8], target: &mut [u8], at: usize)
 }
 
 // Copies a piece, by way of an array of our own. Nothing else points to the array, so that the compiler sees that neither copy overlaps: it
-// makes one `memmove` of the two and leaves the array out, which is twice as fast as its loop for octets that may overlap.
+// makes one `memmove` of the two and leaves the array out, which is faster than its loop (docs/PERFORMANCE.md).
 fn put_piece(source: &[u8], target: &mut [u8], at: usize)
     requires { ⌜ length (now source) ≤ 1024 ⌝ }
     requires { ⌜ at + length (now source) ≤ length (now target) ⌝ }
