@@ -1,7 +1,7 @@
 -- An asking is a pass by the station that is asked, or nothing, to the views of the ring. Assumes nothing.
 use mathlib.Core.Path.{_≡_, refl, ap, ap₂, sym, subst, _∙_}
 use mathlib.Core.Bool.{Bool, true, false, cond}
-use mathlib.Core.List.{List}
+use mathlib.Core.List.{List, [], _∷_}
 use Prim.Native.Nat.{ℕ}
 use native.Mathlib.Decide.{ℕ-discrete}
 use lib.ListN.{take}
@@ -11,19 +11,17 @@ use Rattle.frame.specs.declared.Fields.{Fields}
 use Rattle.members.specs.Members.{cleared}
 use Rattle.reading.specs.Reading.{isStation, dataOf}
 use Rattle.settling.specs.Ring.{_∈_, next, viewAfterPass}
-use Rattle.settling.specs.Simulation.{Moved}
 use Rattle.station.specs.Asking as asking
 use Rattle.station.specs.Data.{gathered}
 use Rattle.station.specs.State.{holds}
 use Rattle.station.specs.Token.{viewHeard, viewAfter, restarted}
-use Rattle.station.specs.declared.Asked.the-variants as answers
 use Rattle.station.specs.declared.Settings.{Settings}
 use Rattle.station.specs.declared.Station.{Station}
 use Rattle.writing.specs.Writing.{wholeLength}
-use Rattle.ring.specs.Events.{Stations, Lent, Event, asked, handed, afterEvent, passIf, writesToken, effectOf, viewsOf, CanCome}
+use Rattle.ring.specs.Counts.{tokenTo, givenBy, gives, Does, passed, nothing}
+use Rattle.ring.specs.Events.{Stations, Lent, Event, asked, handed, afterEvent, CanCome}
 use Rattle.ring.specs.Hears.{accepts}
 use Rattle.ring.specs.Member.{InRing, restarted-in, cleared-kept, sent-in}
-use Rattle.frame.specs.declared.Refusal.the-variants as refusals
 use Rattle.station.specs.Acts.{same-move}
 use Rattle.ring.specs.Steps.{Ok, next-is, heard-in, sends, source-is, destination-is, cyclic-is, last-is, idle-station, idle-answer, asked-station, asked-answer, asked-read}
 
@@ -162,16 +160,21 @@ module _ (numbers : List ℕ) (laws-next : (x : ℕ) → x ∈ numbers → next 
             ap (λ (s : Station). s .view) (heard n m e)
             ∙ ap (λ (test : Bool). cond test (viewAfter (stations n .view) (frame .source) (frame .destination)) (stations n .view)) t
 
-    sent-moved : Moved numbers (viewsOf stations) (effectOf numbers stations event) (viewsOf (afterEvent stations event))
-    sent-moved =
-        subst (λ a. Moved numbers (viewsOf stations) (passIf (writesToken (stations who)) who a) (viewsOf (afterEvent stations event)))
-        (sym (asked-answer numbers laws-next are-stations who (can .0) (stations who) in-ring memory turn output (can .1) h))
-        (by (isToken (frame .code)) refl)
-      where
-        by : (test : Bool) → isToken (frame .code) ≡ test →
-            Moved numbers (viewsOf stations) (passIf test who (answers.Octets (wholeLength frame))) (viewsOf (afterEvent stations event))
-        by true t = ((can .0, eqb-true _ _ h ∙ in-ring .own), token-views t)
-        by false t = plain-views t
+    -- what is written reads as the frame that is due
+    sent-gives : gives stations event ≡ cond (isToken (frame .code)) (frame .destination ∷ []) []
+    sent-gives =
+        ap (λ a. givenBy a (asking.askOf (stations who) memory turn output .output))
+        (asked-answer numbers laws-next are-stations who (can .0) (stations who) in-ring memory turn output (can .1) h)
+        ∙ ap tokenTo (asked-read numbers laws-next are-stations who (can .0) (stations who) in-ring memory turn output (can .1) h)
+
+    sent-does : (test : Bool) → isToken (frame .code) ≡ test → Does numbers stations event
+    sent-does true t =
+        passed (can .0) (eqb-true _ _ h ∙ in-ring .own)
+        (sent-gives ∙ ap (λ (test : Bool). cond test (frame .destination ∷ []) []) t
+        ∙ ap (λ (d : ℕ). d ∷ []) (destination-is numbers laws-next are-stations who (can .0) (stations who) in-ring))
+        (token-views t)
+    sent-does false t =
+        nothing (sent-gives ∙ ap (λ (test : Bool). cond test (frame .destination ∷ []) []) t) (λ n m. refl) (plain-views t)
 
   asked-ok-if : (test : Bool) → holds (stations who) ≡ test → Ok numbers (afterEvent stations event)
   asked-ok-if true h = sent-ok h
@@ -184,16 +187,13 @@ module _ (numbers : List ℕ) (laws-next : (x : ℕ) → x ∈ numbers → next 
   pub asked-ok : Ok numbers (afterEvent stations event)
   asked-ok = asked-ok-if (holds (stations who)) refl
 
-  asked-moved-if : (test : Bool) → holds (stations who) ≡ test → Moved numbers (viewsOf stations) (effectOf numbers stations event) (viewsOf (afterEvent stations event))
-  asked-moved-if true h = sent-moved h
-  asked-moved-if false h =
-      subst (λ a. Moved numbers (viewsOf stations) (passIf (writesToken (stations who)) who a) (viewsOf (afterEvent stations event)))
-      (sym (idle-answer numbers laws-next are-stations who (can .0) (stations who) in-ring memory turn output (can .1) h))
-      (by (writesToken (stations who)))
-    where
-      by : (test : Bool) → Moved numbers (viewsOf stations) (passIf test who (answers.Refused refusals.NotDue)) (viewsOf (afterEvent stations event))
-      by true = λ n m. ap (λ (s : Station). s .view) (idle h n m)
-      by false = λ n m. ap (λ (s : Station). s .view) (idle h n m)
+  asked-does-if : (test : Bool) → holds (stations who) ≡ test → Does numbers stations event
+  asked-does-if true h = sent-does h (isToken (frame .code)) refl
+  asked-does-if false h =
+      nothing
+      (ap (λ a. givenBy a (asking.askOf (stations who) memory turn output .output))
+      (idle-answer numbers laws-next are-stations who (can .0) (stations who) in-ring memory turn output (can .1) h))
+      (λ n m. refl) (λ n m. ap (λ (s : Station). s .view) (idle h n m))
 
-  pub asked-moved : Moved numbers (viewsOf stations) (effectOf numbers stations event) (viewsOf (afterEvent stations event))
-  asked-moved = asked-moved-if (holds (stations who)) refl
+  pub asked-does : Does numbers stations event
+  asked-does = asked-does-if (holds (stations who)) refl

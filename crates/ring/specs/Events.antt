@@ -5,19 +5,18 @@ use mathlib.Core.List.{List}
 use Prim.Native.Nat.{ℕ}
 use lib.Dec.{eqb}
 use lib.ListN.{take}
-use Rattle.frame.specs.Codes.{isToken, isCyclic}
+use Rattle.frame.specs.Codes.{isCyclic}
 use Rattle.frame.specs.declared.Code.the-variants.{Request}
 use Rattle.frame.specs.declared.Fields.{Fields}
 use Rattle.frame.specs.declared.Refusal.{Refusal}
-use Rattle.members.specs.Members.{firstOf, isListed, strikes}
+use Rattle.members.specs.Members.{isListed, strikes}
 use Rattle.reading.specs.Reading.{readOf}
 use Rattle.reading.specs.declared.Read.the-variants.{Frame}
-use Rattle.settling.specs.Ring.{_∈_, pass, silence}
-use Rattle.settling.specs.Simulation.{Effect, makes, nothing, Machine}
+use Rattle.settling.specs.Ring.{_∈_, Agreed}
 use Rattle.station.specs.Asking as asking
 use Rattle.station.specs.Calls.{Call, start, hear, after, refusedBy, verdict}
 use Rattle.station.specs.Hearing as hearing
-use Rattle.station.specs.State.{holds}
+use Rattle.station.specs.State.{isParticipating, holds}
 use Rattle.station.specs.Ticking.{tickOf, watchEnds}
 use Rattle.station.specs.declared.Asked.{Asked}
 use Rattle.station.specs.declared.Asked.the-variants as answers
@@ -56,34 +55,16 @@ afterEvent stations (asked who memory turn output lent) number =
 afterEvent stations ticked number = tickOf (stations number) .station
 afterEvent stations (stray who call) number = cond (eqb number who) (after (stations who) call) (stations number)
 
--- "A pass is an asking that writes code 65000"
-abbrev pub passIf : Bool → ℕ → Asked → Effect
-passIf true who (answers.Octets count) = makes (pass who)
-passIf false who (answers.Octets count) = nothing
-passIf token who (answers.Refused refusal) = nothing
-
-abbrev pub writesToken : Station → Bool
-writesToken station = isToken (asking.dueFields (station .phase) station .code)
-
--- what an event is to the views: a pass, or "a tick that ends the watches", a silence, which all stations have alike
-abbrev pub effectOf : List ℕ → Stations → Event → Effect
-effectOf numbers stations (asked who memory turn output lent) =
-    passIf (writesToken (stations who)) who (asking.askOf (stations who) memory turn output .answer)
-effectOf numbers stations ticked = cond (watchEnds (stations (firstOf numbers))) (makes silence) nothing
-effectOf numbers stations (stray who call) = nothing
-
 abbrev pub viewsOf : Stations → ℕ → ℕ
 viewsOf stations number = stations number .view
 
--- the ring as a machine whose views are looked at
-abbrev pub ringMachine : List ℕ → Machine
-ringMachine numbers = record {
-  State = Stations;
-  Input = Event;
-  after = afterEvent;
-  viewsOf = viewsOf;
-  effect = effectOf numbers;
-}
+-- "All name one holder when all views are equal."
+abbrev pub AllName : List ℕ → Stations → Type 0
+AllName numbers stations = Agreed numbers (viewsOf stations)
+
+-- a tick at this station ends its watch: only a participant has one
+abbrev pub endsWatch : Station → Bool
+endsWatch station = isParticipating (station .phase) && watchEnds station
 
 -- "any call that is refused, or any other call but a tick, a stop, an asking, a cyclic frame of whatever number, or a request of a number
 -- outside the ring"
@@ -100,7 +81,7 @@ CanCome numbers stations (asked who memory turn output lent) =
     (who ∈ numbers) × (asking.lentRight memory turn output ≡ true)
     × ((number : ℕ) → number ∈ numbers → hearing.lentRight (lent number .memory) (lent number .assembly) ≡ true)
 CanCome numbers stations ticked =
-    ((number : ℕ) → number ∈ numbers → watchEnds (stations number) ≡ true → holds (stations number) ≡ false)
-    × ((number : ℕ) → number ∈ numbers → watchEnds (stations number) ≡ true
+    ((number : ℕ) → number ∈ numbers → endsWatch (stations number) ≡ true → holds (stations number) ≡ false)
+    × ((number : ℕ) → number ∈ numbers → endsWatch (stations number) ≡ true
     → (isListed (stations number .members) (stations number .view) && strikes (stations number .members) (stations number .view)) ≡ false)
 CanCome numbers stations (stray who call) = (who ∈ numbers) × Stray numbers (stations who) call

@@ -1,5 +1,6 @@
 -- The ring of full stations.
 pub mod Events
+pub mod Counts
 -- Theorems.
 pub mod Lists
 pub mod Member
@@ -10,5 +11,9 @@ pub mod Ticks
 pub mod Strays
 pub mod Demand
 pub mod Just
+pub mod Counted
+pub mod Settles
 pub mod DemandThree
+pub mod Bringing
 pub mod Worked
+pub mod WorkedSilence

@@ -14,14 +14,14 @@ use Rattle.reading.specs.Reading.{readOf}
 use Rattle.reading.specs.declared.Read.the-variants.{Frame}
 use Rattle.round_trip.specs.Accepted.{Accepted, accepted}
 use Rattle.settling.specs.Ring.{_∈_}
-use Rattle.settling.specs.Simulation.{Moved}
 use Rattle.station.specs.Calls.{Call, start, after, refusedBy, verdict}
 use Rattle.station.specs.Hearing as hearing
 use Rattle.station.specs.Refusing.{Spared, same, turnedOff, refused-left}
 use Rattle.station.specs.State.{isParticipating}
 use Rattle.station.specs.declared.Phase.the-variants.{Participating}
 use Rattle.station.specs.declared.Station.{Station}
-use Rattle.ring.specs.Events.{Stations, stray, afterEvent, effectOf, viewsOf, Stray, refused, starts, harmless, CanCome}
+use Rattle.ring.specs.Counts.{Does, nothing}
+use Rattle.ring.specs.Events.{Stations, stray, afterEvent, Stray, refused, starts, harmless, CanCome}
 use Rattle.station.specs.AskedHeard.{header-read, body-read}
 use Rattle.ring.specs.Lists.{ring-kept}
 use Rattle.ring.specs.Member.{InRing, listed}
@@ -123,5 +123,5 @@ module _ (numbers : List ℕ) (stations : Stations) (ok : Ok numbers stations) (
     elapsed = λ n k p q. ap (λ t. t .0) (left-of n p .elapsed) ∙ ok .elapsed n k p q ∙ sym (ap (λ t. t .0) (left-of k q .elapsed));
   }
 
-  pub stray-moved : Moved numbers (viewsOf stations) (effectOf numbers stations (stray who call)) (viewsOf (afterEvent stations (stray who call)))
-  stray-moved = λ n m. left-of n m .view
+  pub stray-does : Does numbers stations (stray who call)
+  stray-does = nothing refl (λ n m. refl) (λ n m. left-of n m .view)

@@ -1,17 +1,17 @@
 -- A tick is a silence at all stations alike, or nothing, to the views of the ring. Assumes nothing.
 use mathlib.Core.Path.{_≡_, refl, ap, ap₂, sym, subst, _∙_}
-use mathlib.Core.Bool.{Bool, true, false, cond}
+use mathlib.Core.Bool.{Bool, true, false}
 use mathlib.Core.List.{List}
 use Prim.Native.Nat.{ℕ, _+_, _*_, min}
 use lib.Dec.{leb}
 use borrow.Author.Tests.{eqb-false}
 use Rattle.members.specs.Members.{firstOf, nextAfter, missed}
 use Rattle.panel.specs.Panel.{ticked as panelTicked}
-use Rattle.settling.specs.Ring.{_∈_, next, silence}
-use Rattle.settling.specs.Simulation.{makes, nothing, Moved}
+use Rattle.settling.specs.Ring.{_∈_, next}
 use Rattle.station.specs.Ticking.{watchEnds, watchEnded, counted, later}
 use Rattle.station.specs.declared.Station.{Station}
-use Rattle.ring.specs.Events.{Stations, ticked, afterEvent, effectOf, viewsOf, CanCome}
+use Rattle.ring.specs.Counts.{Does, silent, nothing}
+use Rattle.ring.specs.Events.{Stations, ticked, afterEvent, endsWatch, CanCome}
 use Rattle.ring.specs.Member.{InRing, next-same, restarted-in, missed-kept}
 use Rattle.ring.specs.Steps.{Ok}
 
@@ -21,6 +21,10 @@ module _ (numbers : List ℕ) (laws-next : (x : ℕ) → x ∈ numbers → next 
   alike : (n : ℕ) → n ∈ numbers → watchEnds (stations n) ≡ watchEnds (stations (firstOf numbers))
   alike n m =
       ap₂ (λ (watch elapsed : ℕ). leb (watch * 10) (elapsed + 1)) (ok .watch n (firstOf numbers) m first-in) (ok .elapsed n (firstOf numbers) m first-in)
+
+  -- all of them participate
+  ends-is : (n : ℕ) → n ∈ numbers → endsWatch (stations n) ≡ watchEnds (stations (firstOf numbers))
+  ends-is n m = rw (ok .each n m .participates) (alike n m)
 
   -- a tick that does not end the watch
   goes-on : (n : ℕ) → n ∈ numbers → watchEnds (stations n) ≡ false → afterEvent stations ticked n
@@ -66,17 +70,17 @@ module _ (numbers : List ℕ) (laws-next : (x : ℕ) → x ∈ numbers → next 
       each = λ n m.
           subst (InRing numbers n) (sym (ended n m))
           (restarted-in (ok .each n m) (missed (stations n .members) (stations n .view)) (nextAfter (stations n .own .number) (stations n .members) (stations n .view)) _ _
-          (missed-kept (ok .each n m) (stations n .view) (can .1 n m (alike n m ∙ e)))
+          (missed-kept (ok .each n m) (stations n .view) (can .1 n m (ends-is n m ∙ e)))
           (rw (ended-view n m) (laws-next (stations n .view) (ok .each n m .view))));
       watch = λ n k p q. ap (λ (s : Station). s .own .watch .0) (ended n p) ∙ ok .watch n k p q ∙ sym (ap (λ (s : Station). s .own .watch .0) (ended k q));
       elapsed = λ n k p q. ap (λ (s : Station). s .elapsed .0) (ended n p) ∙ sym (ap (λ (s : Station). s .elapsed .0) (ended k q));
     }
 
-    ended-moved : Moved numbers (viewsOf stations) (makes silence) (viewsOf (afterEvent stations ticked))
-    ended-moved = (
-      λ x m d. eqb-false (stations x .view) (stations x .own .number) (can .0 x m (alike x m ∙ e)) (d ∙ sym (ok .each x m .own)),
-      λ x m. ap (λ (s : Station). s .view) (ended x m) ∙ ended-view x m,
-    )
+    ended-does : Does numbers stations ticked
+    ended-does =
+        silent (λ x m. ends-is x m ∙ e)
+        (λ x m d. eqb-false (stations x .view) (stations x .own .number) (can .0 x m (ends-is x m ∙ e)) (d ∙ sym (ok .each x m .own)))
+        (λ x m. ap (λ (s : Station). s .view) (ended x m) ∙ ended-view x m)
 
   ticked-ok-if : (test : Bool) → watchEnds (stations (firstOf numbers)) ≡ test → Ok numbers (afterEvent stations ticked)
   ticked-ok-if true e = ended-ok e
@@ -85,10 +89,9 @@ module _ (numbers : List ℕ) (laws-next : (x : ℕ) → x ∈ numbers → next 
   pub ticked-ok : Ok numbers (afterEvent stations ticked)
   ticked-ok = ticked-ok-if (watchEnds (stations (firstOf numbers))) refl
 
-  ticked-moved-if : (test : Bool) → watchEnds (stations (firstOf numbers)) ≡ test →
-      Moved numbers (viewsOf stations) (cond test (makes silence) nothing) (viewsOf (afterEvent stations ticked))
-  ticked-moved-if true e = ended-moved e
-  ticked-moved-if false e = quiet-views e
+  ticked-does-if : (test : Bool) → watchEnds (stations (firstOf numbers)) ≡ test → Does numbers stations ticked
+  ticked-does-if true e = ended-does e
+  ticked-does-if false e = nothing refl (λ x m. ends-is x m ∙ e) (quiet-views e)
 
-  pub ticked-moved : Moved numbers (viewsOf stations) (effectOf numbers stations ticked) (viewsOf (afterEvent stations ticked))
-  ticked-moved = ticked-moved-if (watchEnds (stations (firstOf numbers))) refl
+  pub ticked-does : Does numbers stations ticked
+  ticked-does = ticked-does-if (watchEnds (stations (firstOf numbers))) refl
