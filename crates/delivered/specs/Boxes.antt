@@ -1,0 +1,45 @@
+-- A station as a host in C keeps it, its core and its list in four arrays, and what each exported call leaves of it: the contracts of
+-- `crates/host/src/lib.rt`, one equation for each of their clauses. ("Box" is the request's word for a station's device.)
+use mathlib.Core.Path.{_≡_}
+use mathlib.Core.Bool.{Bool}
+use mathlib.Core.List.{List}
+use Prim.Native.Nat.{ℕ}
+use Rattle.boundary.specs.Crossing.{coreOf, stationIn}
+use Rattle.boundary.specs.Numbers.{switchedAnswer, tickedAnswer, heardAnswer, askedAnswer}
+use Rattle.boundary.specs.declared.Answer.{Answer}
+use Rattle.boundary.specs.declared.Core.{Core}
+use Rattle.lists.specs.Lists.{membersIn, Whole}
+use Rattle.station.specs.Asking.{askOf}
+use Rattle.station.specs.Calls.{Call, start, stop, tick, hear, ask, after, lent, lentAfter}
+use Rattle.station.specs.Hearing.{hearOf}
+use Rattle.station.specs.Starting.{startOf, stopOf}
+use Rattle.station.specs.Ticking.{tickOf}
+use Rattle.station.specs.declared.Station.{Station}
+
+pub record Box : Type 0 where
+  pub core : Core
+  pub listed : List Bool
+  pub areas : List ℕ
+  pub watch : List ℕ
+  pub misses : List ℕ
+  -- each array has its length, which C's types say
+  pub whole : Whole listed areas watch misses
+
+-- the station that a box holds
+abbrev pub stationAt : Box → Station
+stationAt box = stationIn (box .core) (box .listed) (box .areas) (box .watch) (box .misses)
+
+-- the answer of a call, in numbers
+abbrev pub answerOf : Station → Call → Answer
+answerOf station (start settings) = switchedAnswer (startOf station settings .answer)
+answerOf station stop = switchedAnswer (stopOf station .answer)
+answerOf station tick = tickedAnswer (tickOf station .answer)
+answerOf station (hear octets memory assembly) = heardAnswer (hearOf station octets memory assembly .answer)
+answerOf station (ask memory turn output) = askedAnswer (askOf station memory turn output .answer)
+
+-- An exported call on a box: the box after it, its answer, and the lent buffers after it.
+pub record Done (before : Box) (call : Call) (left : Box) (answer : Answer) (buffers : List (List ℕ)) : Type 0 where
+  pub core : left .core ≡ coreOf (after (stationAt before) call)
+  pub list : membersIn (left .listed) (left .areas) (left .watch) (left .misses) ≡ after (stationAt before) call .members
+  pub answered : answer ≡ answerOf (stationAt before) call
+  pub lends : buffers ≡ lentAfter (stationAt before) call

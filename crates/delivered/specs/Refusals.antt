@@ -1,0 +1,148 @@
+-- Demand 1 of the exported calls: "a numbered refusal changes no buffer, and no station state except in the one case that the table names".
+-- Assumes nothing.
+use mathlib.Core.Path.{_≡_, refl, ap, sym, subst, _∙_}
+use mathlib.Core.Bool.{Bool, true, false, cond}
+use mathlib.Core.List.{List}
+use Prim.Native.Nat.{ℕ, zero, suc, _≤_, _<_}
+use native.Mathlib.Omega.{arith}
+use Rattle.boundary.specs.Crossing.{coreOf, stationOf, station-kept, phaseOf}
+use Rattle.boundary.specs.Numbers.{switchedAnswer, tickedAnswer, heardAnswer, askedAnswer}
+use Rattle.boundary.specs.declared.Answer.{Answer}
+use Rattle.boundary.specs.declared.Core.{Core}
+use Rattle.frame.specs.Refusals.{numberOf}
+use Rattle.frame.specs.declared.Refusal.{Refusal}
+use Rattle.frame.specs.declared.Refusal.the-variants as refusals
+use Rattle.lists.specs.Laws.{list-told}
+use Rattle.lists.specs.Lists.{membersIn}
+use Rattle.members.specs.declared.Members.{Members}
+use Rattle.station.specs.Answers.{phaseNumber}
+use Rattle.station.specs.Asking.{askOf}
+use Rattle.station.specs.Calls.{Call, start, stop, tick, hear, ask, after, lent, Verdict, refusedBy, taken, verdict, switchedVerdict, heardVerdict, askedVerdict}
+use Rattle.station.specs.Hearing.{hearOf}
+use Rattle.station.specs.Refusing.{Spared, same, turnedOff, Left, refused-left}
+use Rattle.station.specs.Starting.{startOf, stopOf}
+use Rattle.station.specs.State.{isParticipating, stopped}
+use Rattle.station.specs.Ticking.{tickOf}
+use Rattle.station.specs.declared.Asked.{Asked}
+use Rattle.station.specs.declared.Asked.the-variants as asked
+use Rattle.station.specs.declared.Heard.{Heard}
+use Rattle.station.specs.declared.Phase.{Phase}
+use Rattle.station.specs.declared.Phase.the-variants.{Off, Listening, Startup, Joining, Participating}
+use Rattle.station.specs.declared.Heard.the-variants as heard
+use Rattle.station.specs.declared.Station.{Station}
+use Rattle.station.specs.declared.Switched.{Switched}
+use Rattle.station.specs.declared.Switched.the-variants as switched
+use Rattle.station.specs.declared.Ticked.{Ticked}
+use Rattle.station.specs.declared.Ticked.the-variants as ticked
+use Rattle.delivered.specs.Boxes.{Box, stationAt, answerOf, Done}
+
+-- the station that a call leaves in the box is the one that the rules leave
+pub left-is : {before left : Box} {call : Call} {answer : Answer} {buffers : List (List ℕ)} → Done before call left answer buffers
+    → stationAt left ≡ after (stationAt before) call
+left-is {before} {left} {call} done =
+    ap (λ (c : Core). stationOf c (membersIn (left .listed) (left .areas) (left .watch) (left .misses))) (done .core)
+    ∙ ap (stationOf (coreOf (after (stationAt before) call))) (done .list)
+    ∙ station-kept (after (stationAt before) call)
+
+-- an answer with the word "refused", 4, is that of a refusal, and its number is the table's
+pub record Told (verdicts : Verdict) (answer : Answer) : Type 0 where
+  pub refusal : Refusal
+  pub number : answer .refusal ≡ numberOf refusal
+  pub refused : verdicts ≡ refusedBy refusal
+
+other-word : {A : Type 0} {word : ℕ} → word ≡ 4 → word < 4 → A
+other-word e small = absurd (omega arith)
+
+switched-told : (answer : Switched) → switchedAnswer answer .word ≡ 4 → Told (switchedVerdict answer) (switchedAnswer answer)
+switched-told switched.Done e = other-word e (omega arith)
+switched-told (switched.Refused refusal) e = record { refusal = refusal; number = refl; refused = refl }
+
+ticked-told : (answer : Ticked) → tickedAnswer answer .word ≡ 4 → Told taken (tickedAnswer answer)
+ticked-told ticked.Off e = other-word e (omega arith)
+ticked-told ticked.Done e = other-word e (omega arith)
+
+heard-told : (answer : Heard) → heardAnswer answer .word ≡ 4 → Told (heardVerdict answer) (heardAnswer answer)
+heard-told heard.Off e = other-word e (omega arith)
+heard-told heard.Done e = other-word e (omega arith)
+heard-told (heard.Cyclic token) e = other-word e (omega arith)
+heard-told (heard.Refused refusal) e = record { refusal = refusal; number = refl; refused = refl }
+
+asked-told : (answer : Asked) → askedAnswer answer .word ≡ 4 → Told (askedVerdict answer) (askedAnswer answer)
+asked-told (asked.Octets count) e = other-word e (omega arith)
+asked-told (asked.Refused refusal) e = record { refusal = refusal; number = refl; refused = refl }
+
+pub told : (station : Station) (call : Call) → answerOf station call .word ≡ 4 → Told (verdict station call) (answerOf station call)
+told station (start settings) = switched-told (startOf station settings .answer)
+told station stop = switched-told (stopOf station .answer)
+told station tick = ticked-told (tickOf station .answer)
+told station (hear octets memory assembly) = heard-told (hearOf station octets memory assembly .answer)
+told station (ask memory turn output) = asked-told (askOf station memory turn output .answer)
+
+-- a core whose phase is one of the five comes back as it was
+phase-back : (number : ℕ) → number ≤ 4 → phaseNumber (phaseOf number) ≡ number
+phase-back zero small = refl
+phase-back (suc zero) small = refl
+phase-back (suc (suc zero)) small = refl
+phase-back (suc (suc (suc zero))) small = refl
+phase-back (suc (suc (suc (suc zero)))) small = refl
+phase-back (suc (suc (suc (suc (suc n))))) small = absurd (omega arith)
+
+withNumber : ℕ → Core → Core
+withNumber number core = record {
+  phase = number;
+  own = core .own;
+  elapsed = core .elapsed;
+  waited = core .waited;
+  rounds = core .rounds;
+  sent = core .sent;
+  view = core .view;
+  block = core .block;
+  gathering = core .gathering;
+  panel = core .panel;
+}
+
+core-back : (core : Core) (members : Members) → core .phase ≤ 4 → coreOf (stationOf core members) ≡ core
+unfolding withNumber
+core-back core members small = ap (λ (number : ℕ). withNumber number core) (phase-back (core .phase) small)
+
+-- every call leaves a phase that is one of the five
+small-phase : (phase : Phase) → phaseNumber phase ≤ 4
+small-phase Off = omega arith
+small-phase Listening = omega arith
+small-phase Startup = omega arith
+small-phase Joining = omega arith
+small-phase Participating = omega arith
+
+pub phase-small : {before left : Box} {call : Call} {answer : Answer} {buffers : List (List ℕ)} → Done before call left answer buffers
+    → left .core .phase ≤ 4
+phase-small {before} {left} {call} done =
+    rw (ap (λ (c : Core). c .phase) (done .core)) (small-phase (after (stationAt before) call .phase))
+
+-- What a refused call leaves of a box: every octet as it was, or number 6 came before we participate and left just what stop leaves.
+pub data Kept (before left : Box) (number : ℕ) : Type 0 where
+  unchanged : left .core ≡ before .core → left .listed ≡ before .listed → left .areas ≡ before .areas → left .watch ≡ before .watch
+      → left .misses ≡ before .misses → Kept before left number
+  stops : number ≡ 6 → isParticipating (stationAt before .phase) ≡ false → stationAt left ≡ stopped (stationAt before)
+      → Kept before left number
+
+-- A refused call leaves every lent buffer and every octet of the state as they were, but for number 6 before we participate.
+pub refused-kept : {before left : Box} {call : Call} {answer : Answer} {buffers : List (List ℕ)} → before .core .phase ≤ 4
+    → Done before call left answer buffers → answer .word ≡ 4 → (buffers ≡ lent call) × Kept before left (answer .refusal)
+refused-kept {before} {left} {call} {answer} {buffers} small done word = (done .lends ∙ what .buffers, by (what .state))
+  where
+    said : Told (verdict (stationAt before) call) (answerOf (stationAt before) call)
+    said = told (stationAt before) call (sym (ap (λ (a : Answer). a .word) (done .answered)) ∙ word)
+
+    what : Left (stationAt before) call (said .refusal)
+    what = refused-left (stationAt before) call (said .refusal) (said .refused)
+
+    number-is : answer .refusal ≡ numberOf (said .refusal)
+    number-is = ap (λ (a : Answer). a .refusal) (done .answered) ∙ said .number
+
+    by : Spared (stationAt before) (after (stationAt before) call) (said .refusal) → Kept before left (answer .refusal)
+    by (same e) =
+        let arrays = list-told (left .listed) (left .areas) (left .watch) (left .misses) (before .listed) (before .areas) (before .watch)
+        (before .misses) (left .whole) (before .whole) (done .list ∙ ap (λ (s : Station). s .members) e) in
+        unchanged (done .core ∙ ap coreOf e ∙ core-back (before .core) (stationAt before .members) small)
+        (arrays .0) (arrays .1) (arrays .2) (arrays .3)
+    by (turnedOff six out e) = stops (number-is ∙ ap numberOf six) out (left-is done ∙ e)
