@@ -1,6 +1,6 @@
 -- When each refusal applies, and the first that does.
 pub mod Applies
-pub mod Worked
+pub mod Cases
 -- It is the one that is answered.
 pub mod FirstApplies
 pub mod FirstFound

@@ -1,9 +1,7 @@
 -- Calls to which one number applies, or several, or none, each worked out by the rules and by the table. Assumes nothing.
 use mathlib.Core.Path.{_≡_, refl}
-use mathlib.Core.Bool.{Bool, true, _&&_}
-use mathlib.Core.List.{List, [], _∷_}
+use mathlib.Core.List.{List, [], _∷_, map}
 use Prim.Native.Nat.{ℕ}
-use lib.Dec.{eqb}
 use lib.ListN.{replicate, set}
 use Rattle.area.specs.Areas.{memoryOctets}
 use Rattle.area.specs.declared.Areas.{Areas}
@@ -24,7 +22,7 @@ use Rattle.writing.specs.Writing.{noAreas, frameOf, headerOf, frontOf, backOf, 
 use Rattle.refusals.specs.Applies.{firstApplying}
 
 -- the number that a call is answered with, 0 where it is not refused
-abbrev numberIn : Verdict → ℕ
+abbrev pub numberIn : Verdict → ℕ
 numberIn taken = 0
 numberIn (refusedBy refusal) = numberOf refusal
 
@@ -85,15 +83,15 @@ abbrev recounted : List ℕ → List ℕ
 recounted octets = set octets TBN 9
 
 -- a call in a state, and the number that it is answered with
-record Row : Type 0 where
-  station : Station
-  call : Call
-  number : ℕ
+pub record Row : Type 0 where
+  pub station : Station
+  pub call : Call
+  pub number : ℕ
 
 abbrev row : Station → Call → ℕ → Row
 row station call number = record { station = station; call = call; number = number }
 
-abbrev rows : List Row
+abbrev pub rows : List Row
 rows =
     -- 11 and 10 apply; 11 and 1
     row off (ask [] [] []) 11
@@ -132,14 +130,12 @@ rows =
     ∷ row (after participant (hears (token 3 7))) (ask large large (replicate 1088 0)) 0
     ∷ []
 
--- by the rules and by the table
-abbrev holds : Row → Bool
-holds r = eqb (numberIn (verdict (r .station) (r .call))) (r .number) && eqb (numberIn (firstApplying (r .station) (r .call))) (r .number)
-
-abbrev every : (Row → Bool) → List Row → Bool
-every test [] = true
-every test (r ∷ rest) = test r && every test rest
-
-pub rows-hold : every holds rows ≡ true
+-- the rules answer each with its number,
+pub by-rules : map (λ (r : Row). numberIn (verdict (r .station) (r .call))) rows ≡ map (λ (r : Row). r .number) rows
 unfolding headerOf frontOf backOf fixedFor fieldsOf
-rows-hold = refl
+by-rules = refl
+
+-- and so does the table
+pub by-table : map (λ (r : Row). numberIn (firstApplying (r .station) (r .call))) rows ≡ map (λ (r : Row). r .number) rows
+unfolding headerOf frontOf backOf fixedFor fieldsOf
+by-table = refl
