@@ -1,5 +1,7 @@
--- Paper 01, "Numbers the station answers with": the number of each refusal. A refusal that a change request adds gets the next number and a
--- clause of its own here.
+-- Paper 01, "Numbers the station answers with": the number of each refusal, and the order in which they are asked. A refusal that a change
+-- request adds gets the next number and a clause of its own here, and a row in the order.
+use mathlib.Core.Path.{_≡_, refl}
+use mathlib.Core.List.{List, [], _∷_, map}
 use Prim.Native.Nat.{ℕ}
 use Rattle.frame.specs.declared.Refusal.{Refusal}
 use Rattle.frame.specs.declared.Refusal.the-variants.{Cut, Mark, Length, Code, Address, Taken, Area, Block, Stranger, NotDue, Buffer}
@@ -16,3 +18,22 @@ numberOf Block = 8
 numberOf Stranger = 9
 numberOf NotDue = 10
 numberOf Buffer = 11
+
+-- "Order: 11, 10, 1, 2, 3, 4, 5, 6, 7, 8, 9, the first that applies."
+abbrev pub order : List Refusal
+order =
+    Buffer
+    ∷ NotDue
+    ∷ Cut
+    ∷ Mark
+    ∷ Length
+    ∷ Code
+    ∷ Address
+    ∷ Taken
+    ∷ Area
+    ∷ Block
+    ∷ Stranger
+    ∷ []
+
+pub order-numbers : map numberOf order ≡ 11 ∷ 10 ∷ 1 ∷ 2 ∷ 3 ∷ 4 ∷ 5 ∷ 6 ∷ 7 ∷ 8 ∷ 9 ∷ []
+order-numbers = refl

@@ -1,6 +1,6 @@
 -- Every frame asked for is accepted by whoever knows its sender and its destination. Assumes nothing.
 use mathlib.Core.Path.{_≡_, refl, ap, _∙_}
-use mathlib.Core.Bool.{Bool, true, false, cond, not, _&&_, _||_, and-false, and-true}
+use mathlib.Core.Bool.{Bool, true, false, not, _&&_, _||_, and-false, and-true}
 use mathlib.Core.List.{List}
 use Prim.Native.Nat.{ℕ}
 use native.Mathlib.Omega.{arith}
@@ -25,14 +25,12 @@ use Rattle.station.specs.Hearing.{Hearing, isTaken, isStranger, knows, l
 use Rattle.station.specs.KeepsAsking.{sound}
 use Rattle.station.specs.ListKept.{next-station}
 use Rattle.station.specs.Reachable.{Reachable}
+use Rattle.station.specs.Refusing.{accepted-taken}
 use Rattle.station.specs.State.{isParticipating, isOff, holds}
 use Rattle.station.specs.declared.Asked.the-variants.{Octets, Refused}
-use Rattle.station.specs.declared.Data.the-variants.{Dropped}
-use Rattle.station.specs.declared.Heard.the-variants as answers
 use Rattle.station.specs.declared.Phase.{Phase}
 use Rattle.station.specs.declared.Phase.the-variants.{Off, Listening, Startup, Joining, Participating}
 use Rattle.station.specs.declared.Station.{Station}
-use Rattle.station.specs.declared.Token.the-variants as tokens
 
 -- octets that are read as fields pass both parts of the reading
 pub header-read : {s : List ℕ} {fields : Fields} → Accepted s fields → readHeaderOf s ≡ Frame fields
@@ -82,18 +80,7 @@ module _ (listener : Station) (octets memory assembly : List ℕ) (frame : Field
 
   pub not-refused : verdict listener (hear octets memory assembly) ≡ taken
   not-refused =
-      ap (λ (result : Hearing). heardVerdict (result .answer)) heard-accepted
-      ∙ either (isParticipating (listener .phase) && isCyclic (frame .code)) _ _ refl (entered (isOff (listener .phase)) (isCyclic (frame .code)))
-    where
-      either : (test : Bool) (one other : Hearing) → heardVerdict (one .answer) ≡ taken → heardVerdict (other .answer) ≡ taken →
-          heardVerdict (cond test one other .answer) ≡ taken
-      either true one other p q = p
-      either false one other p q = q
-
-      entered : (off cyclic : Bool) → heardVerdict (cond off answers.Off (cond cyclic (answers.Cyclic (tokens.None Dropped)) answers.Done)) ≡ taken
-      entered true cyclic = refl
-      entered false true = refl
-      entered false false = refl
+      ap (λ (result : Hearing). heardVerdict (result .answer)) heard-accepted ∙ accepted-taken listener frame octets memory assembly
 
 -- a station that calls can leave, and that is not off, can send
 pub can-send : (station : Station) → Reachable station → isOff (station .phase) ≡ false → CanSend station

@@ -11,13 +11,12 @@ use Rattle.frame.specs.Codes.{isCyclic}
 use Rattle.frame.specs.declared.Fields.{Fields}
 use Rattle.frame.specs.declared.Refusal.{Refusal}
 use Rattle.frame.specs.declared.Refusal.the-variants as refusals
-use Rattle.reading.specs.Reading.{isStation, readHeaderOf, readBodyOf, dataOf}
+use Rattle.reading.specs.Reading.{isStation, readHeaderOf, readBodyOf}
 use Rattle.reading.specs.declared.Read.{Read}
 use Rattle.reading.specs.declared.Read.the-variants.{Frame, Refused}
 use Rattle.station.specs.Asking as asking
 use Rattle.station.specs.Calls.{Call, start, stop, tick, hear, ask, lent, lentAfter, after, refusedBy, taken, verdict, switchedVerdict, heardVerdict, askedVerdict}
-use Rattle.station.specs.Data.{gathered}
-use Rattle.station.specs.Hearing.{Hearing, lentRight, refused, isTaken, afterTaken, isStranger, entersAnswer, enters, accepted, participantHeard, bodyHeard, headerHeard, hearOf}
+use Rattle.station.specs.Hearing.{Hearing, lentRight, refused, isTaken, afterTaken, isStranger, accepted, bodyHeard, headerHeard, hearOf}
 use Rattle.station.specs.Starting.{Switching, need}
 use Rattle.station.specs.State.{isOff, isParticipating, stopped}
 use Rattle.station.specs.declared.Data.the-variants.{Dropped}
@@ -46,6 +45,22 @@ need-left : (test : Bool) (other refusal : Refusal) (station : Station) (rest : 
 need-left true other refusal station rest more e = more e
 need-left false other refusal station rest more e = refl
 
+-- a frame that is accepted is not refused
+pub accepted-taken : (station : Station) (frame : Fields) (octets memory assembly : List ℕ)
+    → heardVerdict (accepted station frame octets memory assembly .answer) ≡ taken
+accepted-taken station frame octets memory assembly =
+    either (isParticipating (station .phase) && isCyclic (frame .code)) _ _ refl (entered (isOff (station .phase)) (isCyclic (frame .code)))
+  where
+    either : (test : Bool) (one other : Hearing) → heardVerdict (one .answer) ≡ taken → heardVerdict (other .answer) ≡ taken
+        → heardVerdict (cond test one other .answer) ≡ taken
+    either true one other p q = p
+    either false one other p q = q
+
+    entered : (off cyclic : Bool) → heardVerdict (cond off heard.Off (cond cyclic (heard.Cyclic (tokens.None Dropped)) heard.Done)) ≡ taken
+    entered true cyclic = refl
+    entered false true = refl
+    entered false false = refl
+
 -- hearing: what is left where the answer is a refusal
 abbrev Keeps : Station → List ℕ → List ℕ → Hearing → Type 0
 Keeps station memory assembly result =
@@ -65,25 +80,8 @@ module _ (station : Station) (memory assembly : List ℕ) where
       let six : refusals.Taken ≡ refusal = cc in
       (subst (Spared station (afterTaken station)) six (taken-spared (isParticipating (station .phase)) refl), refl, refl)
 
-  -- a frame that is heard is no refusal
-  enters-taken : (off cyclic : Bool) → heardVerdict (cond off heard.Off (cond cyclic (heard.Cyclic (tokens.None Dropped)) heard.Done)) ≡ taken
-  enters-taken true cyclic = refl
-  enters-taken false true = refl
-  enters-taken false false = refl
-
   accepted-keeps : (frame : Fields) (octets : List ℕ) → Keeps station memory assembly (accepted station frame octets memory assembly)
-  accepted-keeps frame octets = by (isParticipating (station .phase) && isCyclic (frame .code))
-    where
-      by : (test : Bool) → Keeps station memory assembly
-          (cond test (participantHeard station frame (gathered station frame (dataOf octets frame) assembly memory))
-          (record {
-            station = enters (station .phase) (frame .code) station frame;
-            answer = entersAnswer (station .phase) (frame .code);
-            memory = memory;
-            assembly = assembly;
-          }))
-      by true refusal e = absurd (not-taken e)
-      by false refusal e = absurd (not-taken (sym (enters-taken (isOff (station .phase)) (isCyclic (frame .code))) ∙ e))
+  accepted-keeps frame octets refusal e = absurd (not-taken (sym (accepted-taken station frame octets memory assembly) ∙ e))
 
   body-keeps : (octets : List ℕ) (read : Read) → Keeps station memory assembly (bodyHeard station octets memory assembly read)
   body-keeps octets (Refused other) = refused-keeps other

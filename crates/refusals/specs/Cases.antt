@@ -1,0 +1,141 @@
+-- Calls to which one number applies, or several, or none, each worked out by the rules and by the table. Assumes nothing.
+use mathlib.Core.Path.{_≡_, refl}
+use mathlib.Core.List.{List, [], _∷_, map}
+use Prim.Native.Nat.{ℕ}
+use lib.ListN.{replicate, set}
+use Rattle.area.specs.Areas.{memoryOctets}
+use Rattle.area.specs.declared.Areas.{Areas}
+use Rattle.frame.specs.Positions.{TFL, SNA, DNA, TCD, C-SZ1, TBN}
+use Rattle.frame.specs.Refusals.{numberOf}
+use Rattle.frame.specs.declared.Fields.{Fields}
+use Rattle.members.specs.Listing.{listing}
+use Rattle.members.specs.Members.{noMembers}
+use Rattle.reading.specs.Reading.{fieldsOf}
+use Rattle.round_trip.specs.Sent.{blockFields, requestFields, triggerFields}
+use Rattle.station.specs.Calls.{Call, start, stop, tick, hear, ask, Verdict, refusedBy, taken, verdict, after}
+use Rattle.station.specs.State.{fresh, stopped, never, begun}
+use Rattle.station.specs.declared.Phase.the-variants.{Listening}
+use Rattle.station.specs.declared.Settings.{Settings}
+use Rattle.station.specs.declared.Station.{Station}
+use Rattle.units.specs.declared.Milliseconds.{Milliseconds}
+use Rattle.writing.specs.Writing.{noAreas, frameOf, headerOf, frontOf, backOf, fixedFor}
+use Rattle.refusals.specs.Applies.{firstApplying}
+
+-- the number that a call is answered with, 0 where it is not refused
+abbrev pub numberIn : Verdict → ℕ
+numberIn taken = 0
+numberIn (refusedBy refusal) = numberOf refusal
+
+abbrev watch : Milliseconds
+watch = record { 0 = 20 }
+
+-- areas of which the first leaves its range
+abbrev tooLarge : Areas
+tooLarge = record { one = record { address = 0; size = 513 }; two = record { address = 0; size = 0 } }
+
+abbrev settingsOf : ℕ → Areas → ℕ → Settings
+settingsOf number areas time = record { number = number; areas = areas; watch = record { 0 = time } }
+
+abbrev settings : Settings
+settings = settingsOf 7 noAreas 20
+
+-- station 7: listening, stopped again, and participating with station 3 in its list and in view
+abbrev listening : Station
+listening = fresh Listening settings
+
+abbrev off : Station
+off = stopped listening
+
+abbrev participant : Station
+participant = begun settings (listing noMembers 3 noAreas watch noAreas) 3
+
+abbrev large : List ℕ
+large = replicate memoryOctets 0
+
+-- octets heard, with buffers of the right length
+abbrev hears : List ℕ → Call
+hears octets = hear octets large large
+
+-- a token frame, 64 octets, of an empty turn
+abbrev token : ℕ → ℕ → List ℕ
+token source destination = frameOf (blockFields source destination noAreas watch 1) []
+
+abbrev request : ℕ → List ℕ
+request source = frameOf (requestFields source noAreas watch) []
+
+abbrev trigger : ℕ → List ℕ
+trigger source = frameOf (triggerFields source) []
+
+-- the same octets with another mark, length, code, first area, or total
+abbrev unmarked : List ℕ → List ℕ
+unmarked octets = set octets 0 0
+
+abbrev longer : List ℕ → List ℕ
+longer octets = set octets TFL 1
+
+abbrev uncoded : List ℕ → List ℕ
+uncoded octets = set octets TCD 0
+
+abbrev widened : List ℕ → List ℕ
+widened octets = set octets C-SZ1 255
+
+abbrev recounted : List ℕ → List ℕ
+recounted octets = set octets TBN 9
+
+-- a call in a state, and the number that it is answered with
+pub record Row : Type 0 where
+  pub station : Station
+  pub call : Call
+  pub number : ℕ
+
+abbrev row : Station → Call → ℕ → Row
+row station call number = record { station = station; call = call; number = number }
+
+abbrev pub rows : List Row
+rows =
+    -- 11 and 10 apply; 11 and 1
+    row off (ask [] [] []) 11
+    ∷ row off (hear [] [] []) 11
+    -- 10 and 5; 10 alone
+    ∷ row listening (start (settingsOf 0 noAreas 20)) 10
+    ∷ row off stop 10
+    ∷ row off (ask large large (replicate 1088 0)) 10
+    -- 1 and 2, 2 and 3, 3 and 4, 4 and 5
+    ∷ row listening (hears []) 1
+    ∷ row listening (hears (unmarked (longer (token 3 9)))) 2
+    ∷ row listening (hears (longer (uncoded (token 3 9)))) 3
+    ∷ row listening (hears (uncoded (token 0 9))) 4
+    -- 5 and 6; 5 and 7 at a start; 5 by the watch time alone
+    ∷ row listening (hears (token 7 0)) 5
+    ∷ row off (start (settingsOf 0 tooLarge 20)) 5
+    ∷ row off (start (settingsOf 7 noAreas 0)) 5
+    -- 6 and 7, 7 and 8, 8 and 9
+    ∷ row listening (hears (widened (token 7 3))) 6
+    ∷ row listening (hears (widened (token 3 9))) 7
+    ∷ row participant (hears (recounted (token 9 3))) 8
+    -- 7 alone at a start; 9 alone, by the source and by the token's destination
+    ∷ row off (start (settingsOf 7 tooLarge 20)) 7
+    ∷ row participant (hears (token 9 3)) 9
+    ∷ row participant (hears (token 3 9)) 9
+    -- none: 7 does not look at a trigger, nor 8 at a request, nor 6 at an off station, nor 9 before we participate
+    ∷ row listening (hears (widened (trigger 3))) 0
+    ∷ row listening (hears (recounted (request 3))) 0
+    ∷ row off (hears (token 7 3)) 0
+    ∷ row listening (hears (token 9 3)) 0
+    -- none
+    ∷ row off (start settings) 0
+    ∷ row listening stop 0
+    ∷ row off tick 0
+    ∷ row participant (hears (token 3 7)) 0
+    ∷ row (after participant (hears (token 3 7))) (ask large large (replicate 1088 0)) 0
+    ∷ []
+
+-- the rules answer each with its number,
+pub by-rules : map (λ (r : Row). numberIn (verdict (r .station) (r .call))) rows ≡ map (λ (r : Row). r .number) rows
+unfolding headerOf frontOf backOf fixedFor fieldsOf
+by-rules = refl
+
+-- and so does the table
+pub by-table : map (λ (r : Row). numberIn (firstApplying (r .station) (r .call))) rows ≡ map (λ (r : Row). r .number) rows
+unfolding headerOf frontOf backOf fixedFor fieldsOf
+by-table = refl
