@@ -1,0 +1,100 @@
+-- Paper 01, "The token view and the watch": misses, and the third in a row, told from the calls since off, the phase and the view before each
+-- and the frames that were heard. Nothing here looks at the misses that an entry carries, nor at who is struck.
+use Prim.Native.Nat.{ℕ, suc}
+use mathlib.Core.Path.{_≡_}
+use mathlib.Core.Bool.{Bool, true, false, cond, _&&_, _||_}
+use mathlib.Core.List.{List, [], _∷_}
+use lib.Dec.{eqb, ltb}
+use Rattle.frame.specs.Codes.{isToken, isCyclic}
+use Rattle.frame.specs.declared.Code.{Code}
+use Rattle.frame.specs.declared.Code.the-variants.{Token, Cyclic, Request, Trigger}
+use Rattle.frame.specs.declared.Fields.{Fields}
+use Rattle.members.specs.Members.{isListed}
+use Rattle.reading.specs.Reading.{readOf}
+use Rattle.reading.specs.declared.Read.{Read}
+use Rattle.reading.specs.declared.Read.the-variants.{Frame, Refused}
+use Rattle.station.specs.Calls.{Call, start, stop, tick, hear, ask, Verdict, refusedBy, taken, verdict}
+use Rattle.station.specs.History.{Step, stepOf, history, stateAfter, participates, isTick}
+use Rattle.station.specs.State.{never}
+use Rattle.station.specs.Ticking.{watchEnds}
+use Rattle.station.specs.declared.Phase.{Phase}
+use Rattle.station.specs.declared.Phase.the-variants.{Off, Listening, Startup, Joining, Participating}
+use Rattle.station.specs.declared.Station.{Station}
+
+abbrev pub isRequest : Code → Bool
+isRequest Token = false
+isRequest Cyclic = false
+isRequest Request = true
+isRequest Trigger = false
+
+abbrev pub isUnrefused : Verdict → Bool
+isUnrefused (refusedBy refusal) = false
+isUnrefused taken = true
+
+-- the octets read as a frame that meets a test
+abbrev pub readsAs : (Fields → Bool) → Read → Bool
+readsAs test (Frame frame) = test frame
+readsAs test (Refused refusal) = false
+
+-- a call that hears such a frame unrefused
+abbrev pub hears : (Fields → Bool) → Station → Call → Bool
+hears test station (start settings) = false
+hears test station stop = false
+hears test station tick = false
+hears test station (hear octets memory assembly) =
+    isUnrefused (verdict station (hear octets memory assembly)) && readsAs test (readOf octets)
+hears test station (ask memory turn output) = false
+
+-- whether a frame's source is listed, by the phase that it comes in, the rounds heard by then, and its code: "A token frame heard in listening
+-- .. or in ring startup goes to joining .. and is the first frame read there"; in ring startup "requests heard are listed"; "Joining learns
+-- source, areas and watch time from cyclic frames for three rounds"; "A participant that hears a request lists that station."
+abbrev pub listsIn : Phase → ℕ → Code → Bool
+listsIn Off rounds code = false
+listsIn Listening rounds code = isToken code
+listsIn Startup rounds code = isToken code || isRequest code
+listsIn Joining rounds code = isCyclic code && ltb rounds 3
+listsIn Participating rounds code = isRequest code
+
+-- a listing of x: "Listing a station again replaces its entry, misses cleared"
+abbrev pub lists : ℕ → Station → Call → Bool
+lists x station call = hears (λ frame. listsIn (station .phase) (station .rounds) (frame .code) && eqb (frame .source) x) station call
+
+-- "Every accepted cyclic frame .. clears the source's misses": one of x, at a participant
+abbrev pub accepts : ℕ → Station → Call → Bool
+accepts x station call = hears (λ frame. participates station && (isCyclic (frame .code) && eqb (frame .source) x)) station call
+
+-- an ending of our watch with x in view: "When the watch ends, the station in view gets a miss"
+abbrev pub ends : ℕ → Station → Call → Bool
+ends x station call = isTick call && (participates station && (watchEnds station && eqb (station .view) x))
+
+-- the endings of our watch with x in view since x was last listed, or a cyclic frame of it last accepted. (Of a number that is not listed this
+-- says nothing: when it is listed it begins anew.)
+abbrev pub missesSaid : ℕ → List Step → ℕ
+missesSaid x [] = 0
+missesSaid x (step ∷ earlier) =
+    cond (lists x (step .before) (step .call)) 0
+    (cond (accepts x (step .before) (step .call)) 0
+    (cond (ends x (step .before) (step .call)) (suc (missesSaid x earlier))
+    (missesSaid x earlier)))
+
+-- "A third miss in a row": the latest step ends our watch with x in view, for the third time running
+abbrev pub isThird : ℕ → List Step → Bool
+isThird x [] = false
+isThird x (step ∷ earlier) = ends x (step .before) (step .call) && eqb (missesSaid x (step ∷ earlier)) 3
+
+abbrev pub isStop : Call → Bool
+isStop (start settings) = false
+isStop stop = true
+isStop tick = false
+isStop (hear octets memory assembly) = false
+isStop (ask memory turn output) = false
+
+-- a tick now would end our watch with a listed station in view, for the third time running
+abbrev pub thirdInView : Station → List Step → Bool
+thirdInView station steps = isListed (station .members) (station .view) && isThird (station .view) (stepOf station tick ∷ steps)
+
+-- "Missed three times running is struck, at any station and with misses from before the list": said of a station by the calls since off that
+-- brought it there
+abbrev pub ThirdRunning : Station → Type 0
+ThirdRunning station =
+    (calls : List Call) × (stateAfter never calls ≡ station) × (thirdInView station (history never calls) ≡ true)
