@@ -16,21 +16,18 @@ use Rattle.members.specs.declared.Entry.{Entry}
 use Rattle.members.specs.declared.Members.{Members}
 use Rattle.station.specs.ListKept.{none-listed}
 use Rattle.units.specs.declared.Milliseconds.{Milliseconds}
+use Rattle.misses.specs.MissHistory.{missesAfter, isThird}
 
 -- an entry that carries the misses that the history says, and may yet get one
 pub record Carries (said : ℕ) (entry : Entry) : Type 0 where
   pub misses : entry .misses ≡ said
   pub few : said ≤ 2
 
--- the misses that the history says after a step, by what the step is to the station
-abbrev pub saidAfter : Bool → Bool → Bool → ℕ → ℕ
-saidAfter listed accepted ended said = cond listed 0 (cond accepted 0 (cond ended (suc said) said))
-
 -- what a step does to a station's entry; `stays` where we participate before it and it is no stop
 pub record Moves (stays listed accepted ended : Bool) (before left : Entry) : Type 0 where
-  pub counts : (said : ℕ) → (before .listed ≡ true → Carries said before) → left .listed ≡ true → Carries (saidAfter listed accepted ended said) left
+  pub counts : (said : ℕ) → (before .listed ≡ true → Carries said before) → left .listed ≡ true → Carries (missesAfter listed accepted ended said) left
   pub strikes : (said : ℕ) → stays ≡ true → before .listed ≡ true → Carries said before
-      → left .listed ≡ not (ended && eqb (saidAfter listed accepted ended said) 3)
+      → left .listed ≡ not (isThird ended (missesAfter listed accepted ended said))
 
 module _ {stays : Bool} where
   pub same : {entry : Entry} → Moves stays false false false entry entry
@@ -42,7 +39,7 @@ module _ {stays : Bool} where
   void b l = record { counts = λ said c e. absurd (false≢true (sym l ∙ e)); strikes = λ said s e c. absurd (false≢true (sym b ∙ e)) }
 
   -- it begins anew
-  anew : {listed accepted : Bool} {before left : Entry} → ((said : ℕ) → saidAfter listed accepted false said ≡ 0) → left .misses ≡ 0
+  anew : {listed accepted : Bool} {before left : Entry} → ((said : ℕ) → missesAfter listed accepted false said ≡ 0) → left .misses ≡ 0
       → (before .listed ≡ true → left .listed ≡ true) → Moves stays listed accepted false before left
   anew zeroed none kept = record {
     counts = λ said c l. record { misses = none ∙ sym (zeroed said); few = rw zeroed (omega arith) };
@@ -106,13 +103,13 @@ module _ {stays : Bool} (members : Members) (number x : ℕ) where
       by true l true t = at nobody (record {
         counts = λ said c e. absurd (false≢true e);
         strikes = λ said s e c. let two = leb-true 2 (entryOf members number .misses) t in
-            sym (ap not (eq-eqb (suc said) 3 (omega (arith, c .misses, c .few))));
+            sym (ap not (eq-eqb (suc said) _ (omega (arith, c .misses, c .few))));
       })
       by true l false t = at more (record {
         counts = λ said c e. let few = leb-false 2 (entryOf members number .misses) t in
             record { misses = omega (arith, c l .misses); few = omega (arith, c l .misses) };
         strikes = λ said s e c. let few = leb-false 2 (entryOf members number .misses) t in
-            e ∙ sym (ap not (ne-eqb (suc said) 3 (λ three. omega (arith, c .misses))));
+            e ∙ sym (ap not (ne-eqb (suc said) _ (λ three. omega (arith, c .misses))));
       })
       by false l third t = unlisted (eqb number x) refl l
 

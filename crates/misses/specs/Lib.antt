@@ -1,7 +1,7 @@
 -- Misses and striking, told from the calls since off.
 pub mod MissHistory
 -- Theorems.
-pub mod Worked
+pub mod Cases
 pub mod EntryMoves
 pub mod ListMoves
 pub mod MissesTold

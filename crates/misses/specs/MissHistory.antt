@@ -67,20 +67,26 @@ accepts x station call = hears (λ frame. participates station && (isCyclic (fra
 abbrev pub ends : ℕ → Station → Call → Bool
 ends x station call = isTick call && (participates station && (watchEnds station && eqb (station .view) x))
 
+-- the misses after a step, by whether it lists the station, accepts a cyclic frame of it, or ends our watch with it in view
+abbrev pub missesAfter : Bool → Bool → Bool → ℕ → ℕ
+missesAfter listed accepted ended misses = cond listed 0 (cond accepted 0 (cond ended (suc misses) misses))
+
 -- the endings of our watch with x in view since x was last listed, or a cyclic frame of it last accepted. (Of a number that is not listed this
--- says nothing: when it is listed it begins anew.)
+-- says nothing: when it is listed, it begins anew.)
 abbrev pub missesSaid : ℕ → List Step → ℕ
 missesSaid x [] = 0
 missesSaid x (step ∷ earlier) =
-    cond (lists x (step .before) (step .call)) 0
-    (cond (accepts x (step .before) (step .call)) 0
-    (cond (ends x (step .before) (step .call)) (suc (missesSaid x earlier))
-    (missesSaid x earlier)))
+    missesAfter (lists x (step .before) (step .call)) (accepts x (step .before) (step .call)) (ends x (step .before) (step .call))
+    (missesSaid x earlier)
 
--- "A third miss in a row": the latest step ends our watch with x in view, for the third time running
-abbrev pub isThird : ℕ → List Step → Bool
-isThird x [] = false
-isThird x (step ∷ earlier) = ends x (step .before) (step .call) && eqb (missesSaid x (step ∷ earlier)) 3
+-- "A third miss in a row strikes it from the list": an ending of our watch, with so many misses after it
+abbrev pub isThird : Bool → ℕ → Bool
+isThird ended misses = ended && eqb misses 3
+
+-- the latest step ends our watch with x in view for the third time running
+abbrev pub endsThird : ℕ → List Step → Bool
+endsThird x [] = false
+endsThird x (step ∷ earlier) = isThird (ends x (step .before) (step .call)) (missesSaid x (step ∷ earlier))
 
 abbrev pub isStop : Call → Bool
 isStop (start settings) = false
@@ -91,7 +97,7 @@ isStop (ask memory turn output) = false
 
 -- a tick now would end our watch with a listed station in view, for the third time running
 abbrev pub thirdInView : Station → List Step → Bool
-thirdInView station steps = isListed (station .members) (station .view) && isThird (station .view) (stepOf station tick ∷ steps)
+thirdInView station steps = isListed (station .members) (station .view) && endsThird (station .view) (stepOf station tick ∷ steps)
 
 -- "Missed three times running is struck, at any station and with misses from before the list": said of a station by the calls since off that
 -- brought it there

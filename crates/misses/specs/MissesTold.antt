@@ -12,7 +12,7 @@ use Rattle.station.specs.State.{never}
 use Rattle.station.specs.declared.Station.{Station}
 use Rattle.misses.specs.EntryMoves.{Carries}
 use Rattle.misses.specs.ListMoves.{does, stop-empties}
-use Rattle.misses.specs.MissHistory.{missesSaid, isThird, isStop}
+use Rattle.misses.specs.MissHistory.{missesSaid, endsThird, isStop}
 
 -- every listed station's entry carries what these steps say
 abbrev Told : List Step → Station → Type 0
@@ -28,7 +28,7 @@ module _ (calls : List Call) (x : ℕ) (listed : isListed (stateAfter never call
   carries = told-on calls [] never (λ n e. absurd (false≢true (sym (none-listed n) ∙ e))) x listed
 
   goes-on : participates (stateAfter never calls) ≡ true → (call : Call) → not (isStop call) ≡ true
-      → isListed (after (stateAfter never calls) call .members) x ≡ not (isThird x (stepOf (stateAfter never calls) call ∷ history never calls))
+      → isListed (after (stateAfter never calls) call .members) x ≡ not (endsThird x (stepOf (stateAfter never calls) call ∷ history never calls))
   goes-on inside call e = does x (stateAfter never calls) call .strikes (missesSaid x (history never calls)) (both inside e) listed carries
 
   -- For every list of calls since a station was made, the misses of a listed station are the endings of our watch with it in view since its last
@@ -38,7 +38,7 @@ module _ (calls : List Call) (x : ℕ) (listed : isListed (stateAfter never call
 
   -- And whatever call a participant gets, it lists the station no more just where it is stopped, or where an ending of our watch is the third.
   pub struck-third : participates (stateAfter never calls) ≡ true → (call : Call) → isListed (after (stateAfter never calls) call .members) x
-      ≡ not (isStop call || isThird x (stepOf (stateAfter never calls) call ∷ history never calls))
+      ≡ not (isStop call || endsThird x (stepOf (stateAfter never calls) call ∷ history never calls))
   struck-third inside (start settings) = goes-on inside (start settings) refl
   struck-third inside stop = stop-empties x (stateAfter never calls .phase) (stateAfter never calls) inside
   struck-third inside tick = goes-on inside tick refl

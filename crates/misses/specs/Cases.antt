@@ -15,7 +15,7 @@ use Rattle.station.specs.State.{never}
 use Rattle.station.specs.declared.Settings.{Settings}
 use Rattle.units.specs.declared.Milliseconds.{Milliseconds}
 use Rattle.writing.specs.Writing.{noAreas, frameOf, headerOf, frontOf, backOf, fixedFor}
-use Rattle.misses.specs.MissHistory.{missesSaid, isThird}
+use Rattle.misses.specs.MissHistory.{missesSaid, endsThird}
 
 -- stations 1 and 2 have no areas, and a watch time of 1 ms, which is ten ticks
 abbrev watch : Milliseconds
@@ -49,7 +49,7 @@ abbrev said : List Call → ℕ
 said calls = missesSaid 2 (history never calls)
 
 abbrev third : List Call → Bool
-third calls = isThird 2 (history never calls)
+third calls = endsThird 2 (history never calls)
 
 abbrev listed : List Call → Bool
 listed calls = isListed (stateAfter never calls .members) 2
