@@ -102,13 +102,13 @@ module _ {stays : Bool} (members : Members) (number x : ℕ) where
           (entryOf (cond listed (cond third (struck members number) (withEntry members number more)) members) x)
       by true l true t = at nobody (record {
         counts = λ said c e. absurd (false≢true e);
-        strikes = λ said s e c. let two = leb-true 2 (entryOf members number .misses) t in
+        strikes = λ said s e c. let two = leb-true _ (entryOf members number .misses) t in
             sym (ap not (eq-eqb (suc said) _ (omega (arith, c .misses, c .few))));
       })
       by true l false t = at more (record {
-        counts = λ said c e. let few = leb-false 2 (entryOf members number .misses) t in
+        counts = λ said c e. let few = leb-false _ (entryOf members number .misses) t in
             record { misses = omega (arith, c l .misses); few = omega (arith, c l .misses) };
-        strikes = λ said s e c. let few = leb-false 2 (entryOf members number .misses) t in
+        strikes = λ said s e c. let few = leb-false _ (entryOf members number .misses) t in
             e ∙ sym (ap not (ne-eqb (suc said) _ (λ three. omega (arith, c .misses))));
       })
       by false l third t = unlisted (eqb number x) refl l
