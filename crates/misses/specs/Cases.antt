@@ -9,13 +9,14 @@ use Rattle.frame.specs.declared.Fields.{Fields}
 use Rattle.members.specs.Members.{isListed}
 use Rattle.reading.specs.Reading.{fieldsOf, readOf}
 use Rattle.round_trip.specs.Sent.{blockFields, requestFields}
-use Rattle.station.specs.Calls.{Call, start, stop, tick, hear, ask}
+use Rattle.station.specs.Calls.{Call, start, tick, hear, ask}
 use Rattle.station.specs.History.{history, stateAfter}
 use Rattle.station.specs.State.{never}
 use Rattle.station.specs.declared.Settings.{Settings}
 use Rattle.units.specs.declared.Milliseconds.{Milliseconds}
 use Rattle.writing.specs.Writing.{noAreas, frameOf, headerOf, frontOf, backOf, fixedFor}
 use Rattle.misses.specs.MissHistory.{missesSaid, endsThird}
+use Rattle.misses.specs.WatchHistory.{watchRun}
 
 -- stations 1 and 2 have no areas, and a watch time of 1 ms, which is ten ticks
 abbrev watch : Milliseconds
@@ -54,6 +55,9 @@ third calls = endsThird 2 (history never calls)
 abbrev listed : List Call → Bool
 listed calls = isListed (stateAfter never calls .members) 2
 
+abbrev run : List Call → ℕ
+run calls = watchRun (history never calls)
+
 -- "It ends once ten ticks for each of its milliseconds have come", and the tenth is the first miss.
 first-miss : (said (silent 9 []) ≡ 0) × (said (silent 10 []) ≡ 1)
 unfolding headerOf frontOf backOf fixedFor fieldsOf readOf
@@ -82,3 +86,12 @@ second-stays = (refl, refl)
 third-strikes : (listed (silent 49 []) ≡ true) × (third (silent 50 []) ≡ true) × (listed (silent 50 []) ≡ false)
 unfolding headerOf frontOf backOf fixedFor fieldsOf readOf
 third-strikes = (refl, refl, refl)
+
+-- The watch runs from its restart: nine ticks have come, and the tenth ends it. A frame of station 2 restarts it, also with us in view.
+watch-runs : (run (silent 9 []) ≡ 9) × (run (silent 10 []) ≡ 0)
+unfolding headerOf frontOf backOf fixedFor fieldsOf readOf
+watch-runs = (refl, refl)
+
+frame-restarts : (run (silent 15 []) ≡ 5) × (run (silent 15 (token ∷ [])) ≡ 0)
+unfolding headerOf frontOf backOf fixedFor fieldsOf readOf
+frame-restarts = (refl, refl)

@@ -17,11 +17,11 @@ use Rattle.station.specs.Reached.{AllTyped}
 use Rattle.station.specs.State.{never}
 use Rattle.station.specs.Ticking.{watchEnds}
 use Rattle.station.specs.declared.Station.{Station}
-use Rattle.misses.specs.MissHistory.{missesSaid, ends, thirdInView, ThirdRunning}
+use Rattle.misses.specs.MissHistory.{missesSaid, ends, thirdInView, Brought, ThirdRunning}
 use Rattle.misses.specs.MissesTold.{carries}
 
 -- one call more
-pub state-more : (calls : List Call) (call : Call) (station : Station) → stateAfter station (calls ++ call ∷ []) ≡ after (stateAfter station calls) call
+state-more : (calls : List Call) (call : Call) (station : Station) → stateAfter station (calls ++ call ∷ []) ≡ after (stateAfter station calls) call
 state-more [] call station = refl
 state-more (first ∷ rest) call station = state-more rest call (after station first)
 
@@ -29,12 +29,23 @@ typed-more : (calls : List Call) (call : Call) → AllTyped calls → Typed call
 typed-more [] call typed t = (t, tt)
 typed-more (first ∷ rest) call typed t = (typed .0, typed-more rest call (typed .1) t)
 
+pub brought-more : {station : Station} → Brought station → (call : Call) → Brought (after station call)
+brought-more brought call = record {
+  calls = brought .calls ++ call ∷ [];
+  there = state-more (brought .calls) call never ∙ ap (λ (s : Station). after s call) (brought .there);
+}
+
 -- a state that can be reached is left by a list of calls
 pub calls-of : {station : Station} → Reachable station → (calls : List Call) × AllTyped calls × (stateAfter never calls ≡ station)
+unfolding brought-more
 calls-of unstarted = ([], tt, refl)
 calls-of (called call reached typed) =
     let before = calls-of reached in
-    (before .0 ++ call ∷ [], typed-more (before .0) call (before .1) typed, state-more (before .0) call never ∙ ap (λ (s : Station). after s call) (before .2))
+    let more = brought-more (record { calls = before .0; there = before .2 }) call in
+    (more .calls, typed-more (before .0) call (before .1) typed, more .there)
+
+pub reached-brought : {station : Station} → Reachable station → Brought station
+reached-brought reached = let found = calls-of reached in record { calls = found .0; there = found .2 }
 
 -- up to two, two or more is two
 two-or-more : (n : ℕ) → n ≤ 2 → leb 2 n ≡ eqb n 2
@@ -81,15 +92,14 @@ module _ (calls : List Call) (inside : participates (stateAfter never calls) ≡
 
 -- A station that calls have brought there, and whose watch ends in the next tick: what demand 3 asks of its list is that this is no third miss
 -- running.
-module _ (station : Station) (reached : Reachable station) (inside : participates station ≡ true) (ended : watchEnds station ≡ true) where
-  said : (calls : List Call) → stateAfter never calls ≡ station → strikesInView station ≡ thirdInView station (history never calls)
-  said calls e =
-      subst (λ (s : Station). strikesInView s ≡ thirdInView s (history never calls)) e
-      (view-told calls (ap participates e ∙ inside) (ap watchEnds e ∙ ended))
+module _ (station : Station) (brought : Brought station) (inside : participates station ≡ true) (ended : watchEnds station ≡ true) where
+  said : (by-calls : Brought station) → strikesInView station ≡ thirdInView station (history never (by-calls .calls))
+  said by-calls =
+      subst (λ (s : Station). strikesInView s ≡ thirdInView s (history never (by-calls .calls))) (by-calls .there)
+      (view-told (by-calls .calls) (ap participates (by-calls .there) ∙ inside) (ap watchEnds (by-calls .there) ∙ ended))
 
   pub cover-third : (strikesInView station ≡ false) ↔ ¬ (ThirdRunning station)
   cover-third = (
-    λ e third. false≢true (sym e ∙ said (third .0) (third .1) ∙ third .2),
-    λ none. let found = calls-of reached in
-        is-not (strikesInView station) (λ e. none (found .0, found .2, sym (said (found .0) (found .2)) ∙ e)),
+    λ e running. false≢true (sym e ∙ said (running .brought) ∙ running .third),
+    λ none. is-not (strikesInView station) (λ e. none (record { brought = brought; third = sym (said brought) ∙ e })),
   )

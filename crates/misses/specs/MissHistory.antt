@@ -1,5 +1,6 @@
--- Paper 01, "The token view and the watch": misses, and the third in a row, told from the calls since off, the phase and the view before each
--- and the frames that were heard. Nothing here looks at the misses that an entry carries, nor at who is struck.
+-- Paper 01, "The token view and the watch": misses, and the third in a row, told from the calls since off, from the frames that were heard, and
+-- from the phase, the rounds, the view and the watch before each call (`WatchHistory` tells when the watch ends from the calls, too). Nothing
+-- here looks at the misses that an entry carries, nor at what strikes it.
 use Prim.Native.Nat.{ℕ, suc}
 use mathlib.Core.Path.{_≡_}
 use mathlib.Core.Bool.{Bool, true, false, cond, _&&_, _||_}
@@ -88,6 +89,7 @@ abbrev pub endsThird : ℕ → List Step → Bool
 endsThird x [] = false
 endsThird x (step ∷ earlier) = isThird (ends x (step .before) (step .call)) (missesSaid x (step ∷ earlier))
 
+-- "Stop .. empties the list"
 abbrev pub isStop : Call → Bool
 isStop (start settings) = false
 isStop stop = true
@@ -99,8 +101,13 @@ isStop (ask memory turn output) = false
 abbrev pub thirdInView : Station → List Step → Bool
 thirdInView station steps = isListed (station .members) (station .view) && endsThird (station .view) (stepOf station tick ∷ steps)
 
--- "Missed three times running is struck, at any station and with misses from before the list": said of a station by the calls since off that
--- brought it there
-abbrev pub ThirdRunning : Station → Type 0
-ThirdRunning station =
-    (calls : List Call) × (stateAfter never calls ≡ station) × (thirdInView station (history never calls) ≡ true)
+-- "brought there by whatever calls since off"
+pub record Brought (station : Station) : Type 0 where
+  pub calls : List Call
+  pub there : stateAfter never calls ≡ station
+
+-- "Missed three times running is struck, at any station and with misses from before the list": a tick now would make it so, by the calls that
+-- brought the station there
+pub record ThirdRunning (station : Station) : Type 0 where
+  pub brought : Brought station
+  pub third : thirdInView station (history never (brought .calls)) ≡ true

@@ -1,6 +1,6 @@
 -- An entry's misses are what the history says, and a station is struck exactly at the third. Assumes nothing.
 use mathlib.Core.Path.{_≡_, refl, sym, _∙_}
-use mathlib.Core.Bool.{true, not, _||_, false≢true}
+use mathlib.Core.Bool.{Bool, true, false, not, _&&_, _||_, false≢true}
 use mathlib.Core.List.{List, [], _∷_}
 use Prim.Native.Nat.{ℕ}
 use Rattle.laws.specs.Tests.{both}
@@ -12,7 +12,7 @@ use Rattle.station.specs.State.{never}
 use Rattle.station.specs.declared.Station.{Station}
 use Rattle.misses.specs.EntryMoves.{Carries}
 use Rattle.misses.specs.ListMoves.{does, stop-empties}
-use Rattle.misses.specs.MissHistory.{missesSaid, endsThird, isStop}
+use Rattle.misses.specs.MissHistory.{lists, missesSaid, endsThird, isStop}
 
 -- every listed station's entry carries what these steps say
 abbrev Told : List Step → Station → Type 0
@@ -44,3 +44,18 @@ module _ (calls : List Call) (x : ℕ) (listed : isListed (stateAfter never call
   struck-third inside tick = goes-on inside tick refl
   struck-third inside (hear octets memory assembly) = goes-on inside (hear octets memory assembly) refl
   struck-third inside (ask memory turn output) = goes-on inside (ask memory turn output) refl
+
+-- Who is not listed is listed by nothing but a listing.
+pub unlisted-stays : (station : Station) (call : Call) (x : ℕ) → lists x station call ≡ false → isListed (station .members) x ≡ false
+    → isListed (after station call .members) x ≡ false
+unlisted-stays station call x = does x station call .unlisted
+
+-- So a tick at a participant leaves just those listed that were and for whom it is no third ending.
+pub tick-strikes : (calls : List Call) (x : ℕ) → participates (stateAfter never calls) ≡ true → isListed (after (stateAfter never calls) tick .members) x
+    ≡ (isListed (stateAfter never calls .members) x && not (endsThird x (stepOf (stateAfter never calls) tick ∷ history never calls)))
+tick-strikes calls x inside = by (isListed (stateAfter never calls .members) x) refl
+  where
+    by : (listed : Bool) → isListed (stateAfter never calls .members) x ≡ listed → isListed (after (stateAfter never calls) tick .members) x
+        ≡ (listed && not (endsThird x (stepOf (stateAfter never calls) tick ∷ history never calls)))
+    by true e = struck-third calls x e inside tick
+    by false e = unlisted-stays (stateAfter never calls) tick x refl e
