@@ -1,0 +1,38 @@
+-- Paper 01, "The token view and the watch": our watch, told from the calls since off, the phase before each and the frames that were heard.
+-- Nothing here looks at the count of ticks that the state carries.
+use Prim.Native.Nat.{ℕ, suc, _*_}
+use mathlib.Core.Bool.{Bool, false, cond, not, _||_}
+use mathlib.Core.List.{List, [], _∷_}
+use lib.Dec.{leb}
+use Rattle.frame.specs.Codes.{isCyclic}
+use Rattle.station.specs.Calls.{Call, start, stop, tick, hear, ask, verdict}
+use Rattle.station.specs.History.{Step, participates, isTick}
+use Rattle.station.specs.declared.Station.{Station}
+use Rattle.misses.specs.MissHistory.{isUnrefused, hears}
+
+-- an asking that is not refused
+abbrev pub sends : Station → Call → Bool
+sends station (start settings) = false
+sends station stop = false
+sends station tick = false
+sends station (hear octets memory assembly) = false
+sends station (ask memory turn output) = isUnrefused (verdict station (ask memory turn output))
+
+-- "Every accepted cyclic frame restarts our watch .. Sending one of ours restarts it too. It starts afresh when we begin to participate": until
+-- then it does not run
+abbrev pub restarts : Station → Call → Bool
+restarts station call = not (participates station) || (hears (λ frame. isCyclic (frame .code)) station call || sends station call)
+
+-- "It ends once ten ticks for each of its milliseconds have come": in the tick after so many
+abbrev pub endsAfter : ℕ → ℕ → Bool
+endsAfter milliseconds ticks = leb (milliseconds * 10) (suc ticks)
+
+-- the ticks since the watch last restarted, after a step: it restarts where it ends, too
+abbrev pub runAfter : Bool → Bool → Bool → ℕ → ℕ
+runAfter restarted ticks ended run = cond restarted 0 (cond ticks (cond ended 0 (suc run)) run)
+
+abbrev pub watchRun : List Step → ℕ
+watchRun [] = 0
+watchRun (step ∷ earlier) =
+    runAfter (restarts (step .before) (step .call)) (isTick (step .call)) (endsAfter (step .before .own .watch .0) (watchRun earlier))
+    (watchRun earlier)
