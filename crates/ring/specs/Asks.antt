@@ -4,17 +4,23 @@ use mathlib.Core.Bool.{Bool, true, false, cond}
 use mathlib.Core.List.{List, [], _∷_}
 use Prim.Native.Nat.{ℕ}
 use native.Mathlib.Decide.{ℕ-discrete}
+use lib.Dec.{eqb}
 use lib.ListN.{take}
 use borrow.Author.Tests.{eq-eqb, ne-eqb, eqb-true}
 use Rattle.frame.specs.Codes.{isToken}
 use Rattle.frame.specs.declared.Fields.{Fields}
 use Rattle.members.specs.Members.{cleared}
+use Rattle.misses.specs.CoverThird.{brought-more}
+use Rattle.misses.specs.MissHistory.{Brought}
 use Rattle.reading.specs.Reading.{isStation, dataOf}
 use Rattle.settling.specs.Ring.{_∈_, next, viewAfterPass}
 use Rattle.station.specs.Asking as asking
+use Rattle.station.specs.Calls.{hear, ask}
 use Rattle.station.specs.Data.{gathered}
 use Rattle.station.specs.State.{holds}
 use Rattle.station.specs.Token.{viewHeard, viewAfter, restarted}
+use Rattle.station.specs.declared.Asked.{Asked}
+use Rattle.station.specs.declared.Asked.the-variants as answers
 use Rattle.station.specs.declared.Settings.{Settings}
 use Rattle.station.specs.declared.Station.{Station}
 use Rattle.writing.specs.Writing.{wholeLength}
@@ -48,6 +54,20 @@ module _ (numbers : List ℕ) (laws-next : (x : ℕ) → x ∈ numbers → next 
   other-after : (n : ℕ) → ¬ (n ≡ who) → afterEvent stations event n
       ≡ handed (stations n) (lent n) (asking.askOf (stations who) memory turn output .answer) (asking.askOf (stations who) memory turn output .output)
   other-after n e = rw (ne-eqb n who e)
+
+  -- what a station is handed is one call, or none
+  brought-handed : (n : ℕ) → n ∈ numbers → (answer : Asked) (output : List ℕ) → Brought (handed (stations n) (lent n) answer output)
+  brought-handed n m (answers.Octets count) output = brought-more (ok .brought n m) (hear (take count output) (lent n .memory) (lent n .assembly))
+  brought-handed n m (answers.Refused refusal) output = ok .brought n m
+
+  brought-on : (n : ℕ) → n ∈ numbers → Brought (afterEvent stations event n)
+  brought-on n m = by (eqb n who)
+    where
+      by : (test : Bool) → Brought
+          (cond test (asking.askOf (stations who) memory turn output .station)
+          (handed (stations n) (lent n) (asking.askOf (stations who) memory turn output .answer) (asking.askOf (stations who) memory turn output .output)))
+      by true = brought-more (ok .brought who (can .0)) (ask memory turn output)
+      by false = brought-handed n m (asking.askOf (stations who) memory turn output .answer) (asking.askOf (stations who) memory turn output .output)
 
   -- nothing happens where the station does not hold
   idle : holds (stations who) ≡ false → (n : ℕ) → n ∈ numbers → afterEvent stations event n ≡ stations n
@@ -126,6 +146,7 @@ module _ (numbers : List ℕ) (laws-next : (x : ℕ) → x ∈ numbers → next 
       watch = λ n k p q.
           ap (λ (own : Settings). own .watch .0) (sent-own n p) ∙ ok .watch n k p q ∙ sym (ap (λ (own : Settings). own .watch .0) (sent-own k q));
       elapsed = λ n k p q. sent-elapsed n p ∙ sym (sent-elapsed k q);
+      brought = brought-on;
     }
 
     -- the views after a block with the token, and after one without
@@ -182,6 +203,7 @@ module _ (numbers : List ℕ) (laws-next : (x : ℕ) → x ∈ numbers → next 
     each = λ n m. subst (InRing numbers n) (sym (idle h n m)) (ok .each n m);
     watch = λ n k p q. ap (λ (s : Station). s .own .watch .0) (idle h n p) ∙ ok .watch n k p q ∙ sym (ap (λ (s : Station). s .own .watch .0) (idle h k q));
     elapsed = λ n k p q. ap (λ (s : Station). s .elapsed .0) (idle h n p) ∙ ok .elapsed n k p q ∙ sym (ap (λ (s : Station). s .elapsed .0) (idle h k q));
+    brought = brought-on;
   }
 
   pub asked-ok : Ok numbers (afterEvent stations event)

@@ -3,6 +3,7 @@ use mathlib.Core.Path.{_≡_, ap, sym, subst, _∙_}
 use mathlib.Core.Bool.{true, false}
 use mathlib.Core.List.{List}
 use Prim.Native.Nat.{ℕ}
+use Rattle.misses.specs.CoverThird.{reached-brought}
 use Rattle.reading.specs.Reading.{isStation}
 use Rattle.settling.specs.First.{FirstAgreement, first-exists, agreed?}
 use Rattle.settling.specs.Ring.{_∈_}
@@ -19,7 +20,7 @@ use Rattle.ring.specs.Settles.{settles-from}
 use Rattle.ring.specs.Steps.{Ok}
 
 -- a station that was brought there by calls is one that calls can leave
-left-by-calls : {octets : List ℕ} {station : Station} → LastCall octets station → Reachable station
+pub left-by-calls : {octets : List ℕ} {station : Station} → LastCall octets station → Reachable station
 left-by-calls (sent before memory turn output count reached answer written) = called (ask memory turn output) reached tt
 left-by-calls {octets} (heard before memory assembly reached typed unrefused) = called (hear octets memory assembly) reached typed
 
@@ -45,6 +46,7 @@ module _ {numbers : List ℕ} {stations : Stations} (ring : Disturbed numbers st
     elapsed = λ n k p q.
         just-zero (ring .token) (ring .is-read) (ring .is-token) (ring .last n p) (ring .participates n p)
         ∙ sym (just-zero (ring .token) (ring .is-read) (ring .is-token) (ring .last k q) (ring .participates k q));
+    brought = λ n m. reached-brought (left-by-calls (ring .last n m));
   }
 
   are-stations : (n : ℕ) → n ∈ numbers → isStation n ≡ true

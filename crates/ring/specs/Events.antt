@@ -9,7 +9,7 @@ use Rattle.frame.specs.Codes.{isCyclic}
 use Rattle.frame.specs.declared.Code.the-variants.{Request}
 use Rattle.frame.specs.declared.Fields.{Fields}
 use Rattle.frame.specs.declared.Refusal.{Refusal}
-use Rattle.members.specs.Members.{isListed, strikes}
+use Rattle.misses.specs.MissHistory.{ThirdRunning}
 use Rattle.reading.specs.Reading.{readOf}
 use Rattle.reading.specs.declared.Read.the-variants.{Frame}
 use Rattle.settling.specs.Ring.{_∈_, Agreed}
@@ -74,14 +74,13 @@ pub data Stray (numbers : List ℕ) (station : Station) : Call → Type 0 where
   harmless : (octets memory assembly : List ℕ) (fields : Fields) → readOf octets ≡ Frame fields → isCyclic (fields .code) ≡ false
       → (fields .code ≡ Request → fields .source ∈ numbers) → Stray numbers station (hear octets memory assembly)
 
--- An event that demand 3 covers: buffers "at lengths that 11 lets through, strays aside"; no tick that "ends a holder's watch"; and no
--- station is struck.
+-- An event that demand 3 covers: buffers "at lengths that 11 lets through, strays aside"; no tick that "ends a holder's watch"; and none that
+-- makes a station "missed three times running", which is told from the calls since off and not from the list.
 abbrev pub CanCome : List ℕ → Stations → Event → Type 0
 CanCome numbers stations (asked who memory turn output lent) =
     (who ∈ numbers) × (asking.lentRight memory turn output ≡ true)
     × ((number : ℕ) → number ∈ numbers → hearing.lentRight (lent number .memory) (lent number .assembly) ≡ true)
 CanCome numbers stations ticked =
     ((number : ℕ) → number ∈ numbers → endsWatch (stations number) ≡ true → holds (stations number) ≡ false)
-    × ((number : ℕ) → number ∈ numbers → endsWatch (stations number) ≡ true
-    → (isListed (stations number .members) (stations number .view) && strikes (stations number .members) (stations number .view)) ≡ false)
+    × ((number : ℕ) → number ∈ numbers → endsWatch (stations number) ≡ true → ¬ ThirdRunning (stations number))
 CanCome numbers stations (stray who call) = (who ∈ numbers) × Stray numbers (stations who) call

@@ -13,6 +13,7 @@ use Rattle.frame.specs.Codes.{isToken, isCyclic}
 use Rattle.frame.specs.declared.Code.the-variants.{Token, Cyclic}
 use Rattle.frame.specs.declared.Fields.{Fields}
 use Rattle.frame.specs.declared.Refusal.the-variants as refusals
+use Rattle.misses.specs.MissHistory.{Brought}
 use Rattle.reading.specs.Reading.{isStation, readOf}
 use Rattle.reading.specs.declared.Read.the-variants.{Frame}
 use Rattle.settling.specs.Ring.{_∈_, next}
@@ -32,6 +33,8 @@ pub record Ok (numbers : List ℕ) (stations : Stations) : Type 0 where
   -- equal watch times, and equal times since the watch restarted
   pub watch : (n m : ℕ) → n ∈ numbers → m ∈ numbers → stations n .own .watch .0 ≡ stations m .own .watch .0
   pub elapsed : (n m : ℕ) → n ∈ numbers → m ∈ numbers → stations n .elapsed .0 ≡ stations m .elapsed .0
+  -- each was brought there by calls since off
+  pub brought : (number : ℕ) → number ∈ numbers → Brought (stations number)
 
 -- the smaller of two numbers of the ring is one of them
 min-in : (numbers : List ℕ) (a b : ℕ) → a ∈ numbers → b ∈ numbers → min a b ∈ numbers

@@ -1,6 +1,6 @@
 -- A stray is nothing to the views of the ring. Assumes nothing.
 use mathlib.Core.Path.{_≡_, refl, ap, sym, subst, _∙_}
-use mathlib.Core.Bool.{Bool, true, false, false≢true}
+use mathlib.Core.Bool.{Bool, true, false, cond, false≢true}
 use mathlib.Core.List.{List}
 use Prim.Native.Nat.{ℕ}
 use native.Mathlib.Decide.{ℕ-discrete}
@@ -10,6 +10,8 @@ use Rattle.frame.specs.Codes.{isCyclic}
 use Rattle.frame.specs.declared.Code.{Code}
 use Rattle.frame.specs.declared.Code.the-variants.{Token, Cyclic, Request, Trigger}
 use Rattle.frame.specs.declared.Fields.{Fields}
+use Rattle.misses.specs.CoverThird.{brought-more}
+use Rattle.misses.specs.MissHistory.{Brought}
 use Rattle.reading.specs.Reading.{readOf}
 use Rattle.reading.specs.declared.Read.the-variants.{Frame}
 use Rattle.round_trip.specs.Accepted.{Accepted, accepted}
@@ -116,11 +118,16 @@ module _ (numbers : List ℕ) (stations : Stations) (ok : Ok numbers stations) (
           let there : afterEvent stations (stray who call) n ≡ stations n = rw (ne-eqb n who e) in
           subst (Kept numbers n (stations n)) (sym there) (unchanged (ok .each n m))
 
+  brought-on : (n : ℕ) → n ∈ numbers → (test : Bool) → Brought (cond test (after (stations who) call) (stations n))
+  brought-on n m true = brought-more (ok .brought who (can .0)) call
+  brought-on n m false = ok .brought n m
+
   pub stray-ok : Ok numbers (afterEvent stations (stray who call))
   stray-ok = record {
     each = λ n m. left-of n m .in-ring;
     watch = λ n k p q. ap (λ own. own .watch .0) (left-of n p .own) ∙ ok .watch n k p q ∙ sym (ap (λ own. own .watch .0) (left-of k q .own));
     elapsed = λ n k p q. ap (λ t. t .0) (left-of n p .elapsed) ∙ ok .elapsed n k p q ∙ sym (ap (λ t. t .0) (left-of k q .elapsed));
+    brought = λ n m. brought-on n m (eqb n who);
   }
 
   pub stray-does : Does numbers stations (stray who call)

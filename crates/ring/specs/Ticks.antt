@@ -7,7 +7,12 @@ use lib.Dec.{leb}
 use borrow.Author.Tests.{eqb-false}
 use Rattle.members.specs.Members.{firstOf, nextAfter, missed}
 use Rattle.panel.specs.Panel.{ticked as panelTicked}
+use Rattle.laws.specs.Tests.{first, second}
+use Rattle.misses.specs.CoverThird.{brought-more, strikesInView, cover-third}
+use Rattle.misses.specs.MissHistory.{Brought}
 use Rattle.settling.specs.Ring.{_∈_, next}
+use Rattle.station.specs.Calls.{tick}
+use Rattle.station.specs.State.{isParticipating}
 use Rattle.station.specs.Ticking.{watchEnds, watchEnded, counted, later}
 use Rattle.station.specs.declared.Station.{Station}
 use Rattle.ring.specs.Counts.{Does, silent, nothing}
@@ -25,6 +30,15 @@ module _ (numbers : List ℕ) (laws-next : (x : ℕ) → x ∈ numbers → next 
   -- all of them participate
   ends-is : (n : ℕ) → n ∈ numbers → endsWatch (stations n) ≡ watchEnds (stations (firstOf numbers))
   ends-is n m = rw (ok .each n m .participates) (alike n m)
+
+  -- a watch that ends strikes nobody
+  strikes-nobody : (n : ℕ) → n ∈ numbers → endsWatch (stations n) ≡ true → strikesInView (stations n) ≡ false
+  strikes-nobody n m e =
+      cover-third (stations n) (ok .brought n m) (first (isParticipating (stations n .phase)) (watchEnds (stations n)) e)
+      (second (isParticipating (stations n .phase)) (watchEnds (stations n)) e) .1 (can .1 n m e)
+
+  brought-on : (n : ℕ) → n ∈ numbers → Brought (afterEvent stations ticked n)
+  brought-on n m = brought-more (ok .brought n m) tick
 
   -- a tick that does not end the watch
   goes-on : (n : ℕ) → n ∈ numbers → watchEnds (stations n) ≡ false → afterEvent stations ticked n
@@ -53,6 +67,7 @@ module _ (numbers : List ℕ) (laws-next : (x : ℕ) → x ∈ numbers → next 
       elapsed = λ n k p q.
           ap (λ (s : Station). s .elapsed .0) (quiet n p) ∙ ap (λ (t : ℕ). min 2550 (t + 1)) (ok .elapsed n k p q)
           ∙ sym (ap (λ (s : Station). s .elapsed .0) (quiet k q));
+      brought = brought-on;
     }
 
     quiet-views : (n : ℕ) → n ∈ numbers → afterEvent stations ticked n .view ≡ stations n .view
@@ -70,10 +85,11 @@ module _ (numbers : List ℕ) (laws-next : (x : ℕ) → x ∈ numbers → next 
       each = λ n m.
           subst (InRing numbers n) (sym (ended n m))
           (restarted-in (ok .each n m) (missed (stations n .members) (stations n .view)) (nextAfter (stations n .own .number) (stations n .members) (stations n .view)) _ _
-          (missed-kept (ok .each n m) (stations n .view) (can .1 n m (ends-is n m ∙ e)))
+          (missed-kept (ok .each n m) (stations n .view) (strikes-nobody n m (ends-is n m ∙ e)))
           (rw (ended-view n m) (laws-next (stations n .view) (ok .each n m .view))));
       watch = λ n k p q. ap (λ (s : Station). s .own .watch .0) (ended n p) ∙ ok .watch n k p q ∙ sym (ap (λ (s : Station). s .own .watch .0) (ended k q));
       elapsed = λ n k p q. ap (λ (s : Station). s .elapsed .0) (ended n p) ∙ sym (ap (λ (s : Station). s .elapsed .0) (ended k q));
+      brought = brought-on;
     }
 
     ended-does : Does numbers stations ticked

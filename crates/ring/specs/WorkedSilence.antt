@@ -9,18 +9,21 @@ use lib.Dec.{eqb}
 use lib.ListN.{replicate}
 use borrow.Author.Tests.{eqb-false}
 use Rattle.laws.specs.Tests.{first, second, implied}
-use Rattle.members.specs.Members.{isListed, strikes}
+use Rattle.misses.specs.CoverThird.{brought-more, reached-brought, strikesInView, cover-third}
+use Rattle.misses.specs.MissHistory.{Brought}
 use Rattle.reading.specs.Reading.{fieldsOf, readOf, isStation}
 use Rattle.settling.specs.First.{FirstAgreement}
 use Rattle.settling.specs.Ring.{_∈_}
 use Rattle.settling.specs.Steps.{afterAll, EachFinds}
-use Rattle.station.specs.State.{holds}
+use Rattle.station.specs.Calls.{tick}
+use Rattle.station.specs.State.{isParticipating, holds}
+use Rattle.station.specs.Ticking.{watchEnds}
 use Rattle.station.specs.declared.Station.{Station}
 use Rattle.writing.specs.Writing.{headerOf, frontOf, backOf, fixedFor}
-use Rattle.ring.specs.Bringing.{tokenOctets, one, two, three, one-heard, three-heard, numbers, ascending, at-1, at-2, at-3, each}
+use Rattle.ring.specs.Bringing.{tokenOctets, one, two, three, one-reached, two-reached, three-reached, one-heard, three-heard, numbers, ascending, at-1, at-2, at-3, each}
 use Rattle.ring.specs.Counts.{passes, silences}
 use Rattle.ring.specs.Demand.{Disturbed, RingSettles}
-use Rattle.ring.specs.DemandThree.{demand-three}
+use Rattle.ring.specs.DemandThree.{left-by-calls, demand-three}
 use Rattle.ring.specs.Events.{Stations, Event, ticked, afterEvent, AllName, endsWatch, CanCome}
 use Rattle.ring.specs.Member.{InRing}
 use Rattle.ring.specs.Settles.{settles-from}
@@ -29,9 +32,7 @@ use Rattle.ring.specs.Worked.{Fits, disturbed, passedOn, two-fits, asksO
 
 -- a station whose watch ends does not hold, and strikes nobody
 abbrev fine : Station → Bool
-fine station =
-    not (endsWatch station)
-    || (not (holds station) && not (isListed (station .members) (station .view) && strikes (station .members) (station .view)))
+fine station = not (endsWatch station) || (not (holds station) && not (strikesInView station))
 
 abbrev allFine : Stations → Bool
 allFine now = fine (now 1) && (fine (now 2) && fine (now 3))
@@ -44,16 +45,25 @@ denied : (a : Bool) → not a ≡ true → a ≡ false
 denied true e = absurd (false≢true e)
 denied false e = refl
 
-tick-comes : (now : Stations) → allFine now ≡ true → CanCome numbers now ticked
-tick-comes now e = (λ n m d. denied _ (first (not (holds (now n))) _ (at-end n m d)), λ n m d. denied _ (second (not (holds (now n))) _ (at-end n m d)))
+-- each was brought there by calls since off
+abbrev AllBrought : Stations → Type 0
+AllBrought now = (n : ℕ) → n ∈ numbers → Brought (now n)
+
+tick-comes : (now : Stations) → AllBrought now → allFine now ≡ true → CanCome numbers now ticked
+tick-comes now brought e = (
+  λ n m d. denied _ (first (not (holds (now n))) (not (strikesInView (now n))) (at-end n m d)),
+  λ n m d.
+      cover-third (now n) (brought n m) (first (isParticipating (now n .phase)) (watchEnds (now n)) d)
+      (second (isParticipating (now n .phase)) (watchEnds (now n)) d) .0
+      (denied _ (second (not (holds (now n))) (not (strikesInView (now n))) (at-end n m d))),
+)
   where
     rest : (fine (now 2) && fine (now 3)) ≡ true
     rest = second (fine (now 1)) (fine (now 2) && fine (now 3)) e
 
-    at-end : (n : ℕ) → n ∈ numbers → endsWatch (now n) ≡ true →
-        (not (holds (now n)) && not (isListed (now n .members) (now n .view) && strikes (now n .members) (now n .view))) ≡ true
+    at-end : (n : ℕ) → n ∈ numbers → endsWatch (now n) ≡ true → (not (holds (now n)) && not (strikesInView (now n))) ≡ true
     at-end n m =
-        implied (endsWatch (now n)) (not (holds (now n)) && not (isListed (now n .members) (now n .view) && strikes (now n .members) (now n .view)))
+        implied (endsWatch (now n)) (not (holds (now n)) && not (strikesInView (now n)))
         (each (λ k. fine (now k) ≡ true) (first (fine (now 1)) (fine (now 2) && fine (now 3)) e)
         (first (fine (now 2)) (fine (now 3)) rest) (second (fine (now 2)) (fine (now 3)) rest) n m)
 
@@ -65,14 +75,14 @@ abbrev unsettledFor : ℕ → Stations → Bool
 unsettledFor zero now = true
 unsettledFor (suc ticks) now = (allFine now && apart now) && unsettledFor ticks (afterEvent now ticked)
 
-ticks-come : (ticks : ℕ) (now : Stations) (rest : List Event) → unsettledFor ticks now ≡ true
+ticks-come : (ticks : ℕ) (now : Stations) (rest : List Event) → AllBrought now → unsettledFor ticks now ≡ true
     → EachFinds afterEvent (CanCome numbers) (afterAll afterEvent now (replicate ticks ticked)) rest
     → EachFinds afterEvent (CanCome numbers) now (replicate ticks ticked ++ rest)
-ticks-come zero now rest e come = come
-ticks-come (suc ticks) now rest e come =
+ticks-come zero now rest brought e come = come
+ticks-come (suc ticks) now rest brought e come =
     let more = unsettledFor ticks (afterEvent now ticked) in (
-      tick-comes now (first (allFine now) (apart now) (first (allFine now && apart now) more e)),
-      ticks-come ticks (afterEvent now ticked) rest (second (allFine now && apart now) more e) come,
+      tick-comes now brought (first (allFine now) (apart now) (first (allFine now && apart now) more e)),
+      ticks-come ticks (afterEvent now ticked) rest (λ n m. brought-more (brought n m) tick) (second (allFine now && apart now) more e) come,
     )
 
 ticks-differ : (ticks : ℕ) (now : Stations) (rest : List Event) → unsettledFor ticks now ≡ true
@@ -94,13 +104,14 @@ afterTicks now ticks = afterAll afterEvent now (replicate ticks ticked)
 
 -- a ring in which that leads to agreement, and not before
 record Agrees (now : Stations) (ticks : ℕ) : Type 0 where
+  brought : AllBrought now
   waits : unsettledFor ticks now ≡ true
   differ : apart (afterTicks now ticks) ≡ true
   after : (number : ℕ) → number ∈ numbers → afterAll afterEvent now (ticksThenPass ticks) number .view ≡ 2
 
 module _ (now : Stations) (ticks : ℕ) (agrees : Agrees now ticks) where
   come : EachFinds afterEvent (CanCome numbers) now (ticksThenPass ticks)
-  come = ticks-come ticks now (asksOne ∷ []) (agrees .waits) (can-come (afterTicks now ticks), tt)
+  come = ticks-come ticks now (asksOne ∷ []) (agrees .brought) (agrees .waits) (can-come (afterTicks now ticks), tt)
 
   first-time : FirstAgreement afterEvent (AllName numbers) now (ticksThenPass ticks) (ticksThenPass ticks) []
   first-time = record {
@@ -141,7 +152,12 @@ counted = (refl, refl)
 
 agrees : Agrees stations 10
 unfolding headerOf frontOf backOf fixedFor fieldsOf
-agrees = record { waits = refl; differ = refl; after = each (λ n. afterAll afterEvent stations (ticksThenPass 10) n .view ≡ 2) refl refl refl }
+agrees = record {
+  brought = λ n m. reached-brought (left-by-calls (worked .last n m));
+  waits = refl;
+  differ = refl;
+  after = each (λ n. afterAll afterEvent stations (ticksThenPass 10) n .view ≡ 2) refl refl refl;
+}
 
 pub settled : RingSettles numbers stations (ticksThenPass 10) []
 settled = demand-three worked (come stations 10 agrees) (first-time stations 10 agrees)
@@ -159,6 +175,14 @@ cycle-times : (n : ℕ) → n ∈ numbers → (cycle n .own .watch .0 ≡ 1) × 
 unfolding headerOf frontOf backOf fixedFor fieldsOf
 cycle-times = each (λ n. (cycle n .own .watch .0 ≡ 1) × (cycle n .elapsed .0 ≡ 0)) (refl, refl) (refl, refl) (refl, refl)
 
+cycle-brought : AllBrought cycle
+unfolding headerOf frontOf backOf fixedFor fieldsOf
+cycle-brought =
+    each (λ n. Brought (cycle n))
+    (reached-brought (one-reached (tokenOctets 3 2) refl))
+    (reached-brought (two-reached (tokenOctets 1 3) refl))
+    (reached-brought (three-reached (tokenOctets 2 1) refl))
+
 cycle-ok : Ok numbers cycle
 unfolding headerOf frontOf backOf fixedFor fieldsOf
 cycle-ok = record {
@@ -169,6 +193,7 @@ cycle-ok = record {
       (record { participates = refl; own = refl; list = refl; view = at-1; areas = refl; place = omega arith });
   watch = λ n k p q. cycle-times n p .0 ∙ sym (cycle-times k q .0);
   elapsed = λ n k p q. cycle-times n p .1 ∙ sym (cycle-times k q .1);
+  brought = cycle-brought;
 }
 
 -- views 3, 1, 2 after one silence, and 1, 2, 3 after another; then station 1 passes
@@ -186,7 +211,12 @@ cycle-counted = (refl, refl)
 
 cycle-agrees : Agrees cycle 20
 unfolding headerOf frontOf backOf fixedFor fieldsOf
-cycle-agrees = record { waits = refl; differ = refl; after = each (λ n. afterAll afterEvent cycle (ticksThenPass 20) n .view ≡ 2) refl refl refl }
+cycle-agrees = record {
+  brought = cycle-brought;
+  waits = refl;
+  differ = refl;
+  after = each (λ n. afterAll afterEvent cycle (ticksThenPass 20) n .view ≡ 2) refl refl refl;
+}
 
 pub cycle-settled : RingSettles numbers cycle (ticksThenPass 20) []
 cycle-settled =
