@@ -1,0 +1,319 @@
+-- What is promised: each printed statement written out, in the order of docs/PROMISES.md, and proved by the theorem that is named beside it.
+-- The definitions that the statements are made of are the rules themselves, which the contracts of the calls cite. Words in quotes are the
+-- request's and paper 01's.
+use mathlib.Core.Path.{_≡_, refl, sym, _∙_}
+use mathlib.Core.Bool.{true, false, cond, not, _&&_, _||_, false≢true}
+use mathlib.Core.Logic.{_⊎_, inl, inr}
+use mathlib.Core.List.{List, [], _∷_, _++_}
+use Prim.Native.Nat.{ℕ, _+_, _-_, _*_, _≤_, _<_}
+use lib.Dec.{eqb}
+use lib.ListN.{length, getD, take}
+use Rattle.area.specs.Areas.{inRange}
+use Rattle.area.specs.Overlap.{areasOverlap}
+use Rattle.block.specs.Blocks.{blocksOf, octetsOf}
+use Rattle.boundary.specs.Crossing.{figureIn}
+use Rattle.boundary.specs.declared.Answer.{Answer}
+use Rattle.delivered.specs.Boxes.{Box, stationAt, Done}
+use Rattle.delivered.specs.Refusals.{Kept, refused-kept}
+use Rattle.delivered.specs.Rings.{Boxes, stationsIn, Runs, delivered-settles}
+use Rattle.frame.specs.Codes.{isToken, isCyclic}
+use Rattle.frame.specs.Octets.{octetAt}
+use Rattle.frame.specs.Refusals.{numberOf, order}
+use Rattle.frame.specs.declared.Fields.{Fields}
+use Rattle.frame.specs.declared.Refusal.{Refusal}
+use Rattle.frame.specs.declared.Refusal.the-variants.{Taken}
+use Rattle.members.specs.Members.{entryOf, isListed, ringOf}
+use Rattle.misses.specs.MissHistory.{missesSaid, ends, isStop}
+use Rattle.misses.specs.MissesTold.{misses-told, struck-third}
+use Rattle.panel.specs.Panel.{textOf, shown}
+use Rattle.panel.specs.Texts.{shown-text}
+use Rattle.panel.specs.declared.Figure.the-variants.{Nothing}
+use Rattle.reading.specs.Reading.{readOf, isStation, dataSize}
+use Rattle.reading.specs.Reading as reading
+use Rattle.reading.specs.declared.Read.the-variants.{Frame}
+use Rattle.refusals.specs.Applies.{applies, firstOf}
+use Rattle.refusals.specs.FirstApplies.{first-applies}
+use Rattle.ring.specs.Counts.{passes, silences, given, Does}
+use Rattle.ring.specs.Demand.{LastCall, Disturbed, RingSettles}
+use Rattle.ring.specs.DemandThree.{demand-three-whole}
+use Rattle.ring.specs.Events.{Stations, Event, afterEvent, AllName, CanCome}
+use Rattle.round_trip.specs.ReadBack.{Sendable, fields-read, data-read}
+use Rattle.round_trip.specs.WriteBack.{WrittenBack, written-back}
+use Rattle.settling.specs.First.{FirstAgreement}
+use Rattle.settling.specs.Ring.{_∈_, Ascending}
+use Rattle.settling.specs.Steps.{afterAll, EachFinds}
+use Rattle.station.specs.Answers.{dataOf}
+use Rattle.station.specs.Apart.{Apart}
+use Rattle.station.specs.AskedHeard.{frame-asked, frame-accepted}
+use Rattle.station.specs.Asking.{askOf, dueFields}
+use Rattle.station.specs.Calls.{Call, hear, after, lent, lentAfter, Verdict, refusedBy, taken, verdict}
+use Rattle.station.specs.Gathers.{Parts}
+use Rattle.station.specs.Hearing.{hearOf, knows, lentRight}
+use Rattle.station.specs.History.{stepOf, stateAfter, history, participates, takings, lastGap}
+use Rattle.station.specs.Memory.{Whole, memory-same}
+use Rattle.station.specs.OursKept.{InAreas, ours-kept}
+use Rattle.station.specs.PanelIsGap.{panel-is-gap}
+use Rattle.station.specs.Reachable.{Reachable, Sound, hasView}
+use Rattle.station.specs.Reached.{AllTyped, sound-after, apart-after}
+use Rattle.station.specs.Refusing.{Spared, same, turnedOff, refused-left}
+use Rattle.station.specs.Showing.{figureShown}
+use Rattle.station.specs.Starting.{requestFallen}
+use Rattle.station.specs.State.{never, isOff, isParticipating, stopped}
+use Rattle.station.specs.TurnWhole.{Lending, turn-whole}
+use Rattle.station.specs.TurnWritten.{Turned, turn-written}
+use Rattle.station.specs.declared.Asked.the-variants.{Octets}
+use Rattle.station.specs.declared.Data.the-variants.{Written}
+use Rattle.station.specs.declared.Heard.the-variants as heard
+use Rattle.station.specs.declared.Phase.{Phase}
+use Rattle.station.specs.declared.Phase.the-variants.{Off, Listening, Startup, Joining, Participating}
+use Rattle.station.specs.declared.Station.{Station}
+use Rattle.station.specs.declared.Token.{Token}
+use Rattle.writing.specs.Writing.{frameOf, fixed}
+
+-- THE FIRST PRINTED LINE: the refresh cycle on the front panel.
+
+-- "Ticks from one taking of the token to our next": for every list of calls since a station was made, the panel shows the ticks between the
+-- last two takings since it last began to participate, as the history of the calls tells them; `--` with fewer than two, or when it does not
+-- participate; `OVER` above 65,535.
+pub panel : (calls : List Call)
+    → figureShown (stateAfter never calls) ≡ cond (participates (stateAfter never calls)) (lastGap (takings (history never calls))) Nothing
+panel = panel-is-gap
+
+-- The text is that figure's: the front of six octets, "63 shows `6.3`".
+pub panel-text : (calls : List Call)
+    → take (shown (figureShown (stateAfter never calls)) .length) (shown (figureShown (stateAfter never calls)) .octets)
+    ≡ textOf (figureShown (stateAfter never calls))
+panel-text calls = shown-text (figureShown (stateAfter never calls))
+
+-- Of the station as C keeps it: what `flnet_show` shows is the figure of the station that the box holds.
+pub panel-delivered : (box : Box) → figureIn (box .core) ≡ figureShown (stationAt box)
+panel-delivered box = refl
+
+-- THE SECOND PRINTED LINE, AND DEMAND 3: how soon a disturbed ring is back to one token.
+
+pub disturbed-ring :
+    -- "take n stations, one or more, of different numbers" (written in ascending order),
+    (numbers : List ℕ) → 0 < length numbers → Ascending numbers → (stations : Stations)
+    -- each with its number,
+    → ((n : ℕ) → n ∈ numbers → stations n .own .number ≡ n)
+    -- "all participating and listing exactly one another",
+    → ((n : ℕ) → n ∈ numbers → stations n .phase ≡ Participating)
+    → ((n : ℕ) → n ∈ numbers → ringOf n (stations n .members) ≡ numbers)
+    -- "with equal watch times and every view among their numbers",
+    → ((n m : ℕ) → n ∈ numbers → m ∈ numbers → stations n .own .watch .0 ≡ stations m .own .watch .0)
+    → ((n : ℕ) → n ∈ numbers → stations n .view ∈ numbers)
+    -- "all of which have just sent or heard one token frame", brought there "by whatever calls since off".
+    → (octets : List ℕ) (token : Fields) → readOf octets ≡ Frame token → isToken (token .code) ≡ true
+    → ((n : ℕ) → n ∈ numbers → LastCall octets (stations n))
+    -- "Then take any list of events", each of which can come.
+    → (events : List Event) → EachFinds afterEvent (CanCome numbers) stations events
+    -- It has a part "up to the first time that they all name one holder, or to its end if they never do", and a rest:
+    → (before : List Event) × (later : List Event) × (events ≡ before ++ later)
+    × EachFinds afterEvent (λ now event. ¬ AllName numbers now) stations before
+    × ((later ≡ []) ⊎ AllName numbers (afterAll afterEvent stations before))
+    -- "at most n×n×n passes and (n-1)×(n-1) silences" up to then,
+    × (passes stations before ≤ length numbers * length numbers * length numbers)
+    × (silences numbers stations before ≤ (length numbers - 1) * (length numbers - 1))
+    -- and in truth at most n(n-1)/2 passes, and at most 2n-3 silences for two stations or more, none for one;
+    × (2 * passes stations before ≤ length numbers * (length numbers - 1))
+    × (2 ≤ length numbers → silences numbers stations before + 3 ≤ 2 * length numbers)
+    × (length numbers ≡ 1 → silences numbers stations before ≡ 0)
+    -- "from that first time on they all name one holder after every event", and no silence comes,
+    × ((start rest : List Event) → later ≡ start ++ rest → AllName numbers (afterAll afterEvent stations before)
+    → AllName numbers (afterAll afterEvent stations (before ++ start)))
+    × (silences numbers (afterAll afterEvent stations before) later ≡ 0)
+    -- "and any n passes in a row give each station the token exactly once".
+    × ((start window rest : List Event) → later ≡ start ++ (window ++ rest)
+    → passes (afterAll afterEvent stations (before ++ start)) window ≡ length numbers
+    → (x : ℕ) → x ∈ numbers → given x (afterAll afterEvent stations (before ++ start)) window ≡ 1)
+    -- Each event does to the views what it counts as: a pass, a silence that ends all watches, or nothing.
+    × EachFinds afterEvent (Does numbers) stations (before ++ later)
+disturbed-ring numbers some ascending stations own participates list watch view octets token is-read is-token last events come =
+    let found = demand-three-whole ring events come in (
+      found .0,
+      found .1,
+      found .2 .split,
+      found .2 .differing,
+      found .2 .reached,
+      found .3 .passes-loose,
+      found .3 .silences-loose,
+      found .3 .passes-sharp,
+      found .3 .silences-sharp,
+      found .3 .silences-alone,
+      λ start rest e a. found .3 .stays a start rest e,
+      found .3 .no-silence,
+      found .3 .turns,
+      found .3 .each,
+    )
+  where
+    ring : Disturbed numbers stations
+    ring = record {
+      ring = record { some = some; ascending = ascending };
+      octets = octets;
+      token = token;
+      is-read = is-read;
+      is-token = is-token;
+      last = last;
+      own = own;
+      participates = participates;
+      list = list;
+      watch = watch;
+      view = view;
+    }
+
+-- Of the stations as C keeps them: in boxes that make such a ring, and that exported calls alone have brought through a part of the list, each
+-- box has the view that the ring has there.
+pub disturbed-ring-delivered : {numbers : List ℕ} {boxes : Boxes} → Disturbed numbers (stationsIn boxes) → (events : List Event)
+    → EachFinds afterEvent (CanCome numbers) (stationsIn boxes) events
+    → (before : List Event) × (later : List Event)
+    × FirstAgreement afterEvent (AllName numbers) (stationsIn boxes) events before later
+    × RingSettles numbers (stationsIn boxes) before later
+    × ((part rest : List Event) (left : Boxes) → events ≡ part ++ rest → Runs numbers boxes part left → (n : ℕ) → n ∈ numbers
+    → left n .core .view ≡ afterAll afterEvent (stationsIn boxes) part n .view)
+disturbed-ring-delivered = delivered-settles
+
+-- DEMAND 1: every call gets an answer, "either a result or a number from the table".
+
+-- "Order: 11, 10, 1, 2, 3, 4, 5, 6, 7, 8, 9, the first that applies."
+pub answered : (station : Station) (call : Call) → verdict station call ≡ firstOf (λ refusal. applies refusal station call) order
+answered = first-applies
+
+-- "a numbered refusal changes no buffer, and no station state except in the one case that the table names"
+pub refusal-changes-nothing : (station : Station) (call : Call) (refusal : Refusal) → verdict station call ≡ refusedBy refusal
+    → (lentAfter station call ≡ lent call)
+    × ((after station call ≡ station)
+    ⊎ ((refusal ≡ Taken) × (isParticipating (station .phase) ≡ false) × (after station call ≡ stopped station)))
+refusal-changes-nothing station call refusal e =
+    let left = refused-left station call refusal e in (left .buffers, by (left .state))
+  where
+    by : Spared station (after station call) refusal
+        → (after station call ≡ station)
+        ⊎ ((refusal ≡ Taken) × (isParticipating (station .phase) ≡ false) × (after station call ≡ stopped station))
+    by (same p) = inl p
+    by (turnedOff six out p) = inr (six, out, p)
+
+-- Of the exported calls: every octet of core, list and buffers, where the answer's word is 4, "refused".
+pub refusal-changes-nothing-delivered : {before left : Box} {call : Call} {answer : Answer} {buffers : List (List ℕ)}
+    → before .core .phase ≤ 4 → Done before call left answer buffers → answer .word ≡ 4
+    → (buffers ≡ lent call) × Kept before left (answer .refusal)
+refusal-changes-nothing-delivered = refused-kept
+
+-- DEMAND 2: "Every start, stop, frame, tick and send moves the station .. exactly as the paper's rules .. say." The rules are the definitions
+-- `startOf`, `stopOf`, `tickOf`, `hearOf` and `askOf`, and the contract of each call is the equality with its definition. What follows is proved
+-- of them.
+
+-- What holds in a state.
+pub record Held (station : Station) : Type 0 where
+  -- while we are not off our number is 1 to 254, our watch time 1 to 255 ms, and our areas are in range
+  pub number : isOff (station .phase) ≡ false → isStation (station .own .number) ≡ true
+  pub watch : isOff (station .phase) ≡ false → (1 ≤ station .own .watch .0) × (station .own .watch .0 ≤ 255)
+  pub areas : isOff (station .phase) ≡ false → inRange (station .own .areas) ≡ true
+  -- every entry of the list is of a station from 1 to 254 other than ours, with areas in range and at most two misses
+  pub listed : (x : ℕ) → isListed (station .members) x ≡ true
+      → (isStation x ≡ true) × (eqb x (station .own .number) ≡ false) × (inRange (entryOf (station .members) x .areas) ≡ true)
+      × (entryOf (station .members) x .misses ≤ 2)
+  -- a participant's view is 1 to 254
+  pub view : isParticipating (station .phase) ≡ true → isStation (station .view) ≡ true
+  -- the place in our turn is within its blocks, and the place in the assembly within its source's
+  pub place : station .block < blocksOf (station .own .areas)
+  pub assembled : eqb (station .gathering .source) 0 ≡ false
+      → station .gathering .blocks < blocksOf (entryOf (station .members) (station .gathering .source) .areas)
+  -- no two listed stations' areas overlap, nor do ours with a listed one's once our request has fallen due
+  pub apart : (m n : ℕ) → ¬ (m ≡ n) → isListed (station .members) m ≡ true → isListed (station .members) n ≡ true
+      → areasOverlap (entryOf (station .members) m .areas) (entryOf (station .members) n .areas) ≡ false
+  pub ours-apart : requestFallen (station .phase) station ≡ true → (n : ℕ) → isListed (station .members) n ≡ true
+      → areasOverlap (station .own .areas) (entryOf (station .members) n .areas) ≡ false
+
+-- It holds after any list of calls with any arguments since off.
+pub states : (calls : List Call) → AllTyped calls → Held (afterAll after never calls)
+states calls typed = held (sound-after calls typed) (apart-after calls typed)
+  where
+    seen : (phase : Phase) → isParticipating phase ≡ true → hasView phase ≡ true
+    seen Participating e = refl
+    seen Off e = absurd (false≢true e)
+    seen Listening e = absurd (false≢true e)
+    seen Startup e = absurd (false≢true e)
+    seen Joining e = absurd (false≢true e)
+
+    held : {station : Station} → Sound station → Apart station → Held station
+    held {station} sound apart = record {
+      number = λ on. sound .ours on .number;
+      watch = λ on. (sound .ours on .watch-from, sound .ours on .watch-to);
+      areas = λ on. sound .ours on .areas;
+      listed = λ x l. let entry = sound .list .each x l in (entry .station, entry .other, entry .areas, entry .misses);
+      view = λ e. sound .view (seen (station .phase) e);
+      place = sound .place;
+      assembled = λ e. sound .gathering e .blocks;
+      apart = apart .listed;
+      ours-apart = apart .ours;
+    }
+
+-- "A third miss in a row strikes it from the list": the misses of a listed station are the endings of our watch with it in view since its last
+-- accepted cyclic frame or its last listing, told from the calls alone;
+pub misses : (calls : List Call) (x : ℕ) → isListed (stateAfter never calls .members) x ≡ true
+    → entryOf (stateAfter never calls .members) x .misses ≡ missesSaid x (history never calls)
+misses = misses-told
+
+-- and a participant lists it no more just where it is stopped, or where such an ending is the third.
+pub struck : (calls : List Call) (x : ℕ) → isListed (stateAfter never calls .members) x ≡ true → participates (stateAfter never calls) ≡ true
+    → (call : Call) → isListed (after (stateAfter never calls) call .members) x
+    ≡ not (isStop call || (ends x (stateAfter never calls) call && eqb (missesSaid x (stepOf (stateAfter never calls) call ∷ history never calls)) 3))
+struck = struck-third
+
+-- "Our own areas are never written by a frame."
+pub our-areas : (station : Station) → Reachable station → (octets memory assembly : List ℕ) (at : ℕ) → InAreas (station .own .areas) at
+    → getD (hearOf station octets memory assembly .memory) at 0 ≡ getD memory at 0
+our-areas = ours-kept
+
+-- The common memory changes only where the answer says "written", in any state;
+pub unwritten : (station : Station) (octets memory assembly : List ℕ)
+    → ((token : Token) → hearOf station octets memory assembly .answer ≡ heard.Cyclic token → dataOf token ≡ Written → ⊥)
+    → hearOf station octets memory assembly .memory ≡ memory
+unwritten = memory-same
+
+-- and then the frame is the last block of its turn, from a listed station with its listed areas, both areas hold the turn that is assembled,
+-- area 1 first, and nothing else is altered;
+pub written : (station : Station) → Reachable station → (octets memory assembly : List ℕ) (token : Token)
+    → hearOf station octets memory assembly .answer ≡ heard.Cyclic token → dataOf token ≡ Written
+    → (frame : Fields) × Whole station octets memory assembly frame
+    × Turned (entryOf (station .members) (frame .source) .areas) (hearOf station octets memory assembly .assembly) memory
+    (hearOf station octets memory assembly .memory)
+written = turn-written
+
+-- which is the data of the latest cyclic frames accepted, blocks 1 to the last of that source, where each hearing is lent the assembly buffer as
+-- the one before left it: "half a turn" is never seen.
+pub whole-turn : {frames : List (List ℕ)} (station : Station) (assembly : List ℕ) → Lending frames station assembly
+    → (octets memory : List ℕ) (token : Token)
+    → hearOf station octets memory assembly .answer ≡ heard.Cyclic token → dataOf token ≡ Written
+    → (frame : Fields) × Whole station octets memory assembly frame
+    × Parts (frame .source) (octets ∷ frames) (frame .block)
+    (take (octetsOf (entryOf (station .members) (frame .source) .areas)) (hearOf station octets memory assembly .assembly))
+whole-turn = turn-whole
+
+-- "the frames it writes read back to the same fields": what an asking writes reads as the frame that is due,
+pub frames-asked : (station : Station) → Reachable station → (memory turn output : List ℕ) (count : ℕ)
+    → askOf station memory turn output .answer ≡ Octets count
+    → readOf (take count (askOf station memory turn output .output)) ≡ Frame (dueFields (station .phase) station)
+frames-asked = frame-asked
+
+-- every participant but its sender accepts it that knows the source of a cyclic frame and the destination of a token,
+pub frames-accepted : (station : Station) → Reachable station → (memory turn output : List ℕ) (count : ℕ)
+    → askOf station memory turn output .answer ≡ Octets count
+    → (listener : Station) → listener .phase ≡ Participating → ¬ (dueFields (station .phase) station .source ≡ listener .own .number)
+    → (isCyclic (dueFields (station .phase) station .code) ≡ true → knows listener (dueFields (station .phase) station .source) ≡ true)
+    → (isToken (dueFields (station .phase) station .code) ≡ true → knows listener (dueFields (station .phase) station .destination) ≡ true)
+    → (common assembly : List ℕ) → lentRight common assembly ≡ true
+    → verdict listener (hear (take count (askOf station memory turn output .output)) common assembly) ≡ taken
+frames-accepted station reached memory turn output count e listener inside other source destination =
+    frame-accepted station reached memory turn output count e listener
+    (record { participates = inside; other = other; source = source; destination = destination })
+
+-- any frame with fields that a station can send reads back to them, and to its data,
+pub reads-back : (fields : Fields) (block : List ℕ) → Sendable fields → dataSize fields ≤ length block
+    → (readOf (frameOf fields block) ≡ Frame (fixed fields)) × (reading.dataOf (frameOf fields block) (fixed fields) ≡ take (dataSize fields) block)
+reads-back fields block can enough = (fields-read fields block can enough, data-read fields block can enough)
+
+-- "and fields read from a frame write the same octets for those fields, save the whole length where our frame is shorter, and a value that
+-- clause 10.1 or the paper fixes for that code", which is the table's.
+pub writes-back : (s : List ℕ) (fields : Fields) → ((at : ℕ) → octetAt s at < 256) → readOf s ≡ Frame fields → WrittenBack s fields
+writes-back = written-back

@@ -1,0 +1,1 @@
+// What is promised, in one file: specs/Promises.antt. There is no code here.
