@@ -2,7 +2,7 @@
 -- condition holds, whatever the other numbers say of the same call. Which one is answered where several apply is the table `order` of
 -- crates/frame/specs/Refusals.antt. A refusal that a change request adds gets a definition of its own here, and a clause of `applies`.
 use Prim.Native.Nat.{ℕ, _-_}
-use mathlib.Core.Bool.{Bool, true, false, cond, not, _&&_, _||_}
+use mathlib.Core.Bool.{Bool, false, cond, not, _&&_, _||_}
 use mathlib.Core.List.{List, [], _∷_}
 use lib.Dec.{eqb, ltb}
 use lib.ListN.{length}

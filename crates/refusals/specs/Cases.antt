@@ -5,15 +5,14 @@ use Prim.Native.Nat.{ℕ}
 use lib.ListN.{replicate, set}
 use Rattle.area.specs.Areas.{memoryOctets}
 use Rattle.area.specs.declared.Areas.{Areas}
-use Rattle.frame.specs.Positions.{TFL, SNA, DNA, TCD, C-SZ1, TBN}
+use Rattle.frame.specs.Positions.{TFL, TCD, C-SZ1, TBN}
 use Rattle.frame.specs.Refusals.{numberOf}
-use Rattle.frame.specs.declared.Fields.{Fields}
 use Rattle.members.specs.Listing.{listing}
 use Rattle.members.specs.Members.{noMembers}
 use Rattle.reading.specs.Reading.{fieldsOf}
 use Rattle.round_trip.specs.Sent.{blockFields, requestFields, triggerFields}
 use Rattle.station.specs.Calls.{Call, start, stop, tick, hear, ask, Verdict, refusedBy, taken, verdict, after}
-use Rattle.station.specs.State.{fresh, stopped, never, begun}
+use Rattle.station.specs.State.{fresh, stopped, begun}
 use Rattle.station.specs.declared.Phase.the-variants.{Listening}
 use Rattle.station.specs.declared.Settings.{Settings}
 use Rattle.station.specs.declared.Station.{Station}
