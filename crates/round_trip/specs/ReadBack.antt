@@ -93,7 +93,7 @@ small : (test : Bool) (n : ℕ) → (test ≡ true → n ≤ 1024) → cond test
 small true n p = p refl
 small false n p = omega arith
 
-data-small : (fields : Fields) → Sendable fields → dataSize fields ≤ 1024
+pub data-small : (fields : Fields) → Sendable fields → dataSize fields ≤ 1024
 data-small fields ok = small (isCyclic (fields .code)) (fields .size) (λ e. rw (ok .size e) (at-most (fields .areas) (fields .block)))
 
 -- fixing the fields does not change how much data the frame carries

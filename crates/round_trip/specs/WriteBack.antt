@@ -4,14 +4,15 @@ use mathlib.Core.Bool.{Bool, true, false, cond, not}
 use mathlib.Core.List.{List, [], _∷_, _++_, head-eq-of-cons-eq, tail-eq-of-cons-eq}
 use Prim.Native.Nat.{ℕ, _+_, _-_, _/_, _%_, _<_, _≤_}
 use native.Mathlib.Omega.{arith}
-use lib.Dec.{eqb}
+use lib.Dec.{eqb, leb}
 use lib.ListN.{length, take, length-drop}
 use lib.Seq.{take-all}
 use native.Mathlib.Nat.{le-of-eq}
-use borrow.Author.Tests.{eqb-true}
+use borrow.Author.Tests.{eqb-true, leb-true}
+use Rattle.laws.specs.Tests.{first}
 use Rattle.frame.specs.Codes.{codeOf, codeNumber, isCyclic}
 use Rattle.frame.specs.Octets.{octetAt, wordAt, longAt}
-use Rattle.frame.specs.Positions.{TFL, TCD}
+use Rattle.frame.specs.Positions.{headerLength, TFL, TCD}
 use Rattle.frame.specs.declared.Code.{Code}
 use Rattle.frame.specs.declared.Code.the-variants.{Token, Cyclic, Request, Trigger}
 use Rattle.frame.specs.declared.Coded.the-variants.{Known, Unknown}
@@ -21,8 +22,9 @@ use Rattle.round_trip.specs.Shown.{source-is, destination-is, areas-are,
 use Rattle.reading.specs.Reading.{fieldsOf, readOf, dataSize, dataOf}
 use Rattle.reading.specs.declared.Read.the-variants.{Frame}
 use Rattle.round_trip.specs.Digits.{high-back, low-back, first-back, second-back, third-back, fourth-back}
-use Rattle.round_trip.specs.Places.{lengthPlaces, fieldPlaces, freePlaces, fixedPlaces, without, among, octetsAt}
-use Rattle.round_trip.specs.ReadBack.{Sendable, data-read}
+use Rattle.round_trip.specs.Places.{run, lengthPlaces, fieldPlaces, freePlaces, fixedOctets, otherOctets, placesIn, octetsIn, without, among, octetsAt}
+use Rattle.round_trip.specs.ReadBack.{Sendable, data-small, data-read}
+use Rattle.writing.specs.Lengths.{length-frame}
 use Rattle.writing.specs.Writing.{fixedFor, fixed, headerOf, frameOf, wholeLength}
 
 -- the list holds octets
@@ -69,6 +71,34 @@ free-places Cyclic fields rest = refl
 free-places Request fields rest = refl
 free-places Trigger fields rest = refl
 
+-- at the places that it does fix, and at those of no field that the paper names, stand the octets of the tables
+fixed-places : (code : Code) (fields : Fields) (rest : List ℕ) →
+    octetsAt (placesIn (fixedOctets code)) (headerOf (fixedFor code fields) ++ rest) ≡ octetsIn (fixedOctets code)
+unfolding headerOf fixedFor
+fixed-places Token fields rest = refl
+fixed-places Cyclic fields rest = refl
+fixed-places Request fields rest = refl
+fixed-places Trigger fields rest = refl
+
+other-places : (fields : Fields) (rest : List ℕ) → octetsAt (placesIn otherOctets) (headerOf fields ++ rest) ≡ octetsIn otherOctets
+unfolding headerOf
+other-places fields rest = refl
+
+-- no place of the header is left out: each is of a field, of TFL, or of the second table
+pub all-placed : without (fieldPlaces ++ lengthPlaces ++ placesIn otherOctets) (run headerLength 0) ≡ []
+all-placed = refl
+
+-- a length below 65,536 stands in the last two octets of TFL
+short-length : (fields : Fields) (rest : List ℕ) → fields .length < 65536 →
+    octetsAt lengthPlaces (headerOf fields ++ rest) ≡ 0 ∷ 0 ∷ fields .length / 256 ∷ fields .length % 256 ∷ []
+unfolding headerOf
+short-length fields rest h =
+    let n = fields .length in
+    let a : n / 16777216 ≡ 0 = omega arith in
+    let b : n / 65536 % 256 ≡ 0 = omega arith in
+    let c : n / 256 % 256 ≡ n / 256 = omega arith in
+    simp (a, b, c)
+
 -- a number that is read as a code is that code's number
 code-number : (number : ℕ) (code : Code) → codeOf number ≡ Known code → codeNumber code ≡ number
 code-number number code e = by (eqb number 65000) refl (eqb number 65001) refl (eqb number 65002) refl (eqb number 65012) refl e
@@ -96,34 +126,55 @@ read-sendable a = record {
   size = λ e. block-is a e .size;
 }
 
--- a frame holds at least its data
-data-given : {s : List ℕ} {fields : Fields} → Accepted s fields → dataSize fields ≤ length s
-data-given {s} {fields} a = by (isCyclic (fields .code)) (λ e. block-is a e .least)
+-- a frame that was read holds our header and its data
+whole-given : {s : List ℕ} {fields : Fields} → Accepted s fields → wholeLength fields ≤ length s
+whole-given {s} {fields} a = by (isCyclic (fields .code)) (λ e. block-is a e .least)
   where
-    by : (test : Bool) → (test ≡ true → 64 ≤ length s - fields .size) → cond test (fields .size) 0 ≤ length s
+    by : (test : Bool) → (test ≡ true → 64 ≤ length s - fields .size) → 64 + cond test (fields .size) 0 ≤ length s
     by true h = let part = h refl in omega arith
-    by false h = omega arith
+    by false h = leb-true 64 (length s) (first (leb 64 (length s)) (leb (length s) 1120) (a .is-whole))
 
--- what writing the fields that were read from s gives: the same data, and the same octets at the fields' places
+-- what we write of the fields that were read, with the data that stood behind them
+abbrev pub rewritten : List ℕ → Fields → List ℕ
+rewritten s fields = frameOf fields (dataOf s fields)
+
+-- What that is: the same data, and the same octets at the fields' places. Where they may differ, it says what stands there.
 pub record WrittenBack (s : List ℕ) (fields : Fields) : Type 0 where
-  pub octets : dataOf (frameOf fields (dataOf s fields)) (fixed fields) ≡ dataOf s fields
-  -- every place of a field but TFL, save those that clause 10.1 or the paper fixes for the code
-  pub places : octetsAt (freePlaces (fields .code)) (frameOf fields (dataOf s fields)) ≡ octetsAt (freePlaces (fields .code)) s
-  -- TFL, unless our frame is shorter
-  pub lengths : length s ≡ wholeLength fields → octetsAt lengthPlaces (frameOf fields (dataOf s fields)) ≡ octetsAt lengthPlaces s
+  pub octets : dataOf (rewritten s fields) (fixed fields) ≡ dataOf s fields
+  -- every place of a field but TFL, save those that clause 10.1 or the paper fixes for the code,
+  pub places : octetsAt (freePlaces (fields .code)) (rewritten s fields) ≡ octetsAt (freePlaces (fields .code)) s
+  -- and the octets at these are the table's,
+  pub fixed-octets : octetsAt (placesIn (fixedOctets (fields .code))) (rewritten s fields) ≡ octetsIn (fixedOctets (fields .code))
+  -- as are those of no field that the paper names
+  pub other-octets : octetsAt (placesIn otherOctets) (rewritten s fields) ≡ octetsIn otherOctets
+  -- our frame is a header of 64 octets and the data, never longer than the one that was read
+  pub header-and-data : length (rewritten s fields) ≡ headerLength + length (dataOf s fields)
+  pub no-longer : length (rewritten s fields) ≤ length s
+  -- TFL, unless our frame is shorter,
+  pub lengths : length s ≤ length (rewritten s fields) → octetsAt lengthPlaces (rewritten s fields) ≡ octetsAt lengthPlaces s
+  -- and it is always the octets of our frame
+  pub own-length : octetsAt lengthPlaces (rewritten s fields) ≡ 0 ∷ 0 ∷ length (rewritten s fields) / 256 ∷ length (rewritten s fields) % 256 ∷ []
 
 pub written-back : (s : List ℕ) (fields : Fields) → Octets s → readOf s ≡ Frame fields → WrittenBack s fields
 unfolding fixedFor
 written-back s fields small e =
     let a = accepted s fields e in
-    let size : length (dataOf s fields) ≡ dataSize fields = rw length-drop (let h = data-given a in omega arith) in
+    let given = whole-given a in
+    let size : length (dataOf s fields) ≡ dataSize fields = rw length-drop (omega arith) in
+    let ours : length (rewritten s fields) ≡ wholeLength fields = length-frame fields (dataOf s fields) (le-of-eq (sym size)) in
+    let within = data-small fields (read-sendable a) in
     let rest = take (dataSize fields) (dataOf s fields) in
     record {
       octets = data-read fields (dataOf s fields) (read-sendable a) (le-of-eq (sym size)) ∙ take-all (dataSize fields) (dataOf s fields) (le-of-eq size);
       places =
           free-places (fields .code) fields rest
-          ∙ fewer (fixedPlaces (fields .code)) fieldPlaces (headerOf fields ++ rest) s
+          ∙ fewer (placesIn (fixedOctets (fields .code))) fieldPlaces (headerOf fields ++ rest) s
           (ap (λ (f : Fields). octetsAt fieldPlaces (headerOf f ++ rest)) (sym (a .holds))
           ∙ same-places s small (fields .code) rest (code-number (wordAt s TCD) (fields .code) (a .is-coded)));
-      lengths = λ long. same-length s small (fixed fields) rest (sym long ∙ sym (length-is a));
+      fixed-octets = fixed-places (fields .code) fields rest;
+      other-octets = other-places (fixed fields) rest;
+      header-and-data = omega arith;
+      no-longer = omega arith;
+      lengths = λ most. same-length s small (fixed fields) rest (let same : wholeLength fields ≡ length s = omega arith in same ∙ sym (length-is a));
+      own-length = rw ours (short-length (fixed fields) rest (omega arith));
     }
