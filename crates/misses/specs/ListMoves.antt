@@ -24,7 +24,7 @@ use Rattle.station.specs.PanelMoves.{in-phase}
 use Rattle.station.specs.Starting.{oursDue, startedUp, joinedBy}
 use Rattle.station.specs.State.{isParticipating}
 use Rattle.station.specs.Ticking.{tickedBy, watchEnds, watchEnded, counted, later}
-use Rattle.station.specs.Waits.{acceptanceTime, detectionWait}
+use Rattle.station.specs.Waits.{acceptanceTime, detectionWait, longestWatch}
 use Rattle.station.specs.declared.Phase.{Phase}
 use Rattle.station.specs.declared.Phase.the-variants.{Off, Listening, Startup, Joining, Participating}
 use Rattle.station.specs.declared.Settings.{Settings}
@@ -57,7 +57,7 @@ module _ (x : ℕ) where
       by : (ended : Bool) → Moves true false false (ended && eqb (station .view) x) (entryOf (station .members) x)
           (entryOf (cond ended
           (watchEnded (in-phase Participating station))
-          (counted (in-phase Participating station) (station .own) (later 2550 (station .elapsed)) (station .waited) (ticked (station .panel))) .members) x)
+          (counted (in-phase Participating station) (station .own) (later longestWatch (station .elapsed)) (station .waited) (ticked (station .panel))) .members) x)
       by true = missed-moves (station .members) (station .view) x
       by false = same
 

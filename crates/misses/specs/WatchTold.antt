@@ -27,7 +27,7 @@ use Rattle.station.specs.Reached.{AllTyped}
 use Rattle.station.specs.Starting.{startedUp}
 use Rattle.station.specs.State.{isParticipating, never, stopped}
 use Rattle.station.specs.Ticking.{tickedBy, watchEnds, watchEnded, counted, later}
-use Rattle.station.specs.Waits.{acceptanceTime, detectionWait}
+use Rattle.station.specs.Waits.{acceptanceTime, detectionWait, longestWatch}
 use Rattle.station.specs.declared.Phase.{Phase}
 use Rattle.station.specs.declared.Phase.the-variants.{Off, Listening, Startup, Joining, Participating}
 use Rattle.station.specs.declared.Settings.{Settings}
@@ -83,7 +83,7 @@ tick-runs Participating station ok = goes (rw (← same) (by (watchEnds (in-phas
     by : (ended : Bool) → watchEnds (in-phase Participating station) ≡ ended
         → cond ended
         (watchEnded (in-phase Participating station))
-        (counted (in-phase Participating station) (station .own) (later 2550 (station .elapsed)) (station .waited) (ticked (station .panel))) .elapsed .0
+        (counted (in-phase Participating station) (station .own) (later longestWatch (station .elapsed)) (station .waited) (ticked (station .panel))) .elapsed .0
         ≡ cond ended 0 (suc (station .elapsed .0))
     by true e = refl
     by false e = let below = leb-false _ (station .elapsed .0 + 1) e in omega (arith, most)
