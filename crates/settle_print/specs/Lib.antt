@@ -5,3 +5,4 @@ pub mod Parts
 pub mod Lines
 pub mod Filling
 pub mod Joined
+pub mod Shown

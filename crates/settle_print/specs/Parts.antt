@@ -70,6 +70,10 @@ shortened shown p = record {
   settled = p .settled;
 }
 
+-- a line that was put, with what is to be printed behind it
+abbrev pub behind : List ℕ → Printing → Filled
+behind line p = record { printing = p; length = length line }
+
 -- a run's next line with so many steps left, the next step or the totals, and what is to be printed behind it
 abbrev pub runLine : ℕ → Printing → List ℕ
 runLine zero p = settledLine (p .settled)

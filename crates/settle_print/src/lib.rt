@@ -7,7 +7,7 @@ ghost use Prim.Native.Nat.{_≤_};
 ghost use lib.ListN.{length};
 ghost use Rattle.copying.specs.Pasted.{pasted};
 ghost use Rattle.settle_output.specs.Output.{room};
-ghost use Rattle.settle_print.specs.Parts.{stageOf, printingOf, isOver, ringAfter, shortened, runLine, runNext, nextLine, nextOf, filledOf, bufferAfter};
+ghost use Rattle.settle_print.specs.Parts.{stageOf, printingOf, isOver, ringAfter, shortened, behind, runLine, runNext, nextLine, nextOf, filledOf, bufferAfter};
 
 // What comes next: `bad,` and a line's number, the column names, the run, or nothing.
 pub enum Stage {
@@ -103,12 +103,13 @@ pub fn shorten(printing: Printing, shown: u64) -> Printing
 // The next line of a run: its next step, or its totals where no step is left.
 fn put_run(printing: Printing, output: &mut [u8]) -> Filled
     requires { ⌜ room ≤ length (now output) ⌝ }
-    ensures { λ r. ⌜ r ≡ record { printing = runNext (printing .left) printing; length = length (runLine (printing .left) printing) } ⌝ }
+    ensures { λ r. ⌜ r ≡ behind (runLine (printing .left) printing) (runNext (printing .left) printing) ⌝ }
     ensures { λ _. ⌜ now (output .exit) ≡ pasted (now (output .entry)) 0 (runLine (printing .left) printing) ⌝ }
 {
     let settled = printing.settled;
     let ring = printing.ring;
-    if printing.left == 0 {
+    let left = printing.left;
+    if left == 0 {
         let length = settle_output::put_settled(settled, output);
         let printing = Printing {
             stage: Stage::Over,
@@ -119,10 +120,11 @@ fn put_run(printing: Printing, output: &mut [u8]) -> Filled
     let stepped = settle_run::step(ring);
     let length = settle_output::put_step(stepped, output);
     let ring = stepped.ring;
+    let rest = left - 1;
     let printing = Printing {
         stage: Stage::Run,
         ring,
-        left: printing.left - 1,
+        left: rest,
         settled,
     };
     Filled { printing, length }
@@ -131,7 +133,7 @@ fn put_run(printing: Printing, output: &mut [u8]) -> Filled
 // The next line, in front of the output.
 fn put_next(printing: Printing, output: &mut [u8]) -> Filled
     requires { ⌜ room ≤ length (now output) ⌝ }
-    ensures { λ r. ⌜ r ≡ record { printing = nextOf printing; length = length (nextLine printing) } ⌝ }
+    ensures { λ r. ⌜ r ≡ behind (nextLine printing) (nextOf printing) ⌝ }
     ensures { λ _. ⌜ now (output .exit) ≡ pasted (now (output .entry)) 0 (nextLine printing) ⌝ }
 {
     let stage = printing.stage;

@@ -7,8 +7,7 @@ use lib.ListN.{length}
 use Rattle.copying.specs.Laws.{paste-nothing}
 use Rattle.copying.specs.Pasted.{pasted}
 use Rattle.settle_output.specs.Output.{room}
-use Rattle.settle_print.specs.Parts.{staged, lineBy, nextBy, nextLine, nextOf}
-use Rattle.settle_print.specs.declared.Filled.{Filled}
+use Rattle.settle_print.specs.Parts.{staged, behind, lineBy, nextBy, nextLine, nextOf}
 use Rattle.settle_print.specs.declared.Printing.{Printing}
 use Rattle.settle_print.specs.declared.Stage.{Stage}
 use borrow.Author.Needs.{needs}
@@ -17,16 +16,16 @@ use Rattle.settle_print.proofs.put_next.Tie as tie
 
 -- what was put is the next line where the stage is told
 module _ (p : Printing) {stage : Stage} (told : p .stage ≡ stage) where
-  put-next : _≡_ {A = Filled} (record { printing = nextBy stage p; length = length (lineBy stage p) }) (record { printing = nextOf p; length = length (nextLine p) })
+  put-next : behind (lineBy stage p) (nextBy stage p) ≡ behind (nextLine p) (nextOf p)
   unfolding nextOf nextLine
-  put-next = ap (λ (stage : Stage). record { printing = nextBy stage p; length = length (lineBy stage p) }) (sym told)
+  put-next = ap (λ (stage : Stage). behind (lineBy stage p) (nextBy stage p)) (sym told)
 
-  counted : {count : ℕ} → count ≡ length (lineBy stage p) → _≡_ {A = Filled} (record { printing = nextBy stage p; length = count }) (record { printing = nextOf p; length = length (nextLine p) })
+  counted : {count : ℕ} → count ≡ length (lineBy stage p) → record { printing = nextBy stage p; length = count } ≡ behind (nextLine p) (nextOf p)
   counted e = ap (λ (n : ℕ). record { printing = nextBy stage p; length = n }) e ∙ put-next
 
-put-line : (p : Printing) (out : List ℕ) {stage : Stage} → p .stage ≡ stage → pasted out 0 (lineBy stage p) ≡ pasted out 0 (nextLine p)
-unfolding nextLine
-put-line p out told = ap (λ (stage : Stage). pasted out 0 (lineBy stage p)) (sym told)
+  put-line : (out : List ℕ) → pasted out 0 (lineBy stage p) ≡ pasted out 0 (nextLine p)
+  unfolding nextLine
+  put-line out = ap (λ (stage : Stage). pasted out 0 (lineBy stage p)) (sym told)
 
 enum-known-stage : tie.Need-enum-known-stage
 enum-known-stage c = search needs
@@ -58,7 +57,7 @@ returns c =
     let put = c .before .before .before .before .put-bad .ensures in
     let enough = le-ltb (length (start .args .output .now)) room (start .pre) in
     let told = c .before .before .before .before .before .before .before .stage .given .1 in
-    (counted (start .args .printing) told (rw enough at (put .0)), (rw enough at (put .1)) ∙ put-line (start .args .printing) (start .args .output .now) told)
+    (counted (start .args .printing) told (rw enough at (put .0)), (rw enough at (put .1)) ∙ put-line (start .args .printing) told (start .args .output .now))
 
 same-length-2 : tie.Need-same-length-2
 same-length-2 c = search needs
@@ -69,7 +68,7 @@ returns-2 c =
     let put = c .before .before .before .before .put-header .ensures in
     let enough = le-ltb (length (start .args .output .now)) room (start .pre) in
     let told = c .before .before .before .before .before .before .enum-told .given .1 in
-    (counted (start .args .printing) told (rw enough at (put .0)), (rw enough at (put .1)) ∙ put-line (start .args .printing) (start .args .output .now) told)
+    (counted (start .args .printing) told (rw enough at (put .0)), (rw enough at (put .1)) ∙ put-line (start .args .printing) told (start .args .output .now))
 
 same-length-3 : tie.Need-same-length-3
 same-length-3 c = search needs
@@ -79,7 +78,7 @@ returns-3 c =
     let start = c .before .before .before .before .before .before .before in
     let put = c .before .before .put-run .ensures in
     let told = c .before .before .before .before .enum-told2 .given .1 in
-    (put .0 ∙ put-next (start .args .printing) told, put .1 ∙ put-line (start .args .printing) (start .args .output .now) told)
+    (put .0 ∙ put-next (start .args .printing) told, put .1 ∙ put-line (start .args .printing) told (start .args .output .now))
 
 returns-4 : tie.Need-returns-4
 returns-4 c =
@@ -87,7 +86,7 @@ returns-4 c =
     let p = start .args .printing in
     let out = start .args .output .now in
     let told = c .enum-told3 .given .1 in
-    (ap (λ (stage : Stage). record { printing = staged stage p; length = 0 }) told ∙ put-next p told, sym (paste-nothing out 0) ∙ put-line p out told)
+    (ap (λ (stage : Stage). record { printing = staged stage p; length = 0 }) told ∙ put-next p told, sym (paste-nothing out 0) ∙ put-line p told out)
 
 pub put-next-spec : {M : Type 1} → statement M
 put-next-spec =

@@ -1,24 +1,14 @@
 -- `settle_print::shorten` meets its contract.
-use mathlib.Core.Path.{_≡_}
-use Prim.Native.Nat.{_-_, min}
+use mathlib.Core.Path.{_≡_, sym}
+use Prim.Native.Nat.{min}
 use native.Mathlib.Omega.{arith}
-use Rattle.settle_print.specs.Parts.{ringAfter}
+use Rattle.settle_print.specs.Shown.{all-shown}
 use borrow.Author.Needs.{needs}
 use Rattle.settle_print.proofs.shorten.Statement.{statement}
 use Rattle.settle_print.proofs.shorten.Tie as tie
 
 returns : tie.Need-returns
-unfolding ringAfter
-returns c =
-    let a = c .before .args in
-    let none : 0 ≡ a .printing .left - a .shown = omega arith in
-    let all : a .printing .left ≡ min (a .printing .left) (a .shown) = omega arith in
-    λ i. record {
-      stage = a .printing .stage;
-      ring = ringAfter (none i) (a .printing .ring);
-      left = all i;
-      settled = a .printing .settled;
-    }
+returns c = sym (all-shown (c .before .args .shown) (c .before .args .printing) (c .if1 .taken))
 
 sub-ring-after : tie.Need-sub-ring-after
 sub-ring-after c = search needs
