@@ -15,7 +15,8 @@ fn run_case(index: usize) {
     let mut input = io::buffer();
     let count = io::read_full(file, &mut input);
     libc::close(file);
-    settle_print::print_run(&input[..count], 6);
+    let printing = settle_print::begin(&input[..count]);
+    settle_write::write_rest(settle_print::shorten(printing, 6));
 }
 
 fn main() {

@@ -1,3 +1,8 @@
--- The whole output of `settle`. No contract can say what a program writes: each line is settled by `settle_output`, and the run by
--- `settle_run`.
+-- The definitions of this crate, and what is proved of them.
 pub mod Whole
+pub mod Parts
+-- Theorems.
+pub mod Lines
+pub mod Filling
+pub mod Joined
+pub mod Shown

@@ -1,0 +1,95 @@
+-- Laws of one line: it stands in front of what is still to be printed, and fits. Assumes nothing.
+use mathlib.Core.Path.{_≡_, refl, sym}
+use mathlib.Core.Bool.{Bool, true, false, false≢true}
+use mathlib.Core.List.{[], _++_, append-assoc, append-nil}
+use Prim.Native.Nat.{ℕ, zero, suc, _≤_}
+use native.Mathlib.Omega.{arith}
+use Rattle.settle_run.specs.Run.{steppedOf}
+use Rattle.settle_output.specs.Output.{stepLine, settledLine, badLine}
+use Rattle.settle_output.specs.Room.{Fits, header-fits, step-fits, settled-fits, bad-fits}
+use Rattle.settle_print.specs.Whole.{stepLines}
+use Rattle.settle_print.specs.Parts.{restBy, restOf, overIn, isOver, runLine, runNext, lineBy, nextBy, nextLine, nextOf, linesBy, linesLeft}
+use Rattle.settle_print.specs.declared.Stage.{Stage}
+use Rattle.settle_print.specs.declared.Stage.the-variants.{Bad, Header, Run, Over}
+use Rattle.settle_print.specs.declared.Printing.{Printing}
+
+-- so too of a run with so many steps left
+run-line : (left : ℕ) (p : Printing) → runLine left p ++ restOf (runNext left p) ≡ stepLines left (p .ring) ++ settledLine (p .settled)
+unfolding restOf stepLines
+run-line zero p = append-nil (settledLine (p .settled))
+run-line (suc left) p =
+    sym (append-assoc (stepLine (steppedOf (p .ring))) (stepLines left (steppedOf (p .ring) .ring)) (settledLine (p .settled)))
+
+-- the next line stands in front of what is still to be printed behind it
+pub line-next : (p : Printing) → nextLine p ++ restOf (nextOf p) ≡ restOf p
+unfolding nextLine nextOf restOf
+line-next p = by (p .stage)
+  where
+    by : (stage : Stage) → lineBy stage p ++ restOf (nextBy stage p) ≡ restBy stage p
+    by (Bad number) = append-nil (badLine number)
+    by Header = refl
+    by Run = run-line (p .left) p
+    by Over = refl
+
+run-lines : (left : ℕ) (p : Printing) → suc left ≡ suc (linesLeft (runNext left p))
+run-lines zero p = refl
+run-lines (suc left) p = refl
+
+-- and it is one line less
+pub lines-next : (p : Printing) → isOver p ≡ false → linesLeft p ≡ suc (linesLeft (nextOf p))
+unfolding nextOf
+lines-next p = by (p .stage)
+  where
+    by : (stage : Stage) → overIn stage ≡ false → linesBy stage p ≡ suc (linesLeft (nextBy stage p))
+    by (Bad number) e = refl
+    by Header e = refl
+    by Run e = run-lines (p .left) p
+    by Over e = absurd (false≢true (sym e))
+
+-- nothing is left of a printing that is over
+pub lines-over : (p : Printing) → isOver p ≡ true → linesLeft p ≡ 0
+lines-over p = by (p .stage)
+  where
+    by : (stage : Stage) → overIn stage ≡ true → linesBy stage p ≡ 0
+    by (Bad number) e = absurd (false≢true e)
+    by Header e = absurd (false≢true e)
+    by Run e = absurd (false≢true e)
+    by Over e = refl
+
+pub some-left : (p : Printing) → 1 ≤ linesLeft p → isOver p ≡ false
+some-left p = by (isOver p) refl
+  where
+    by : (t : Bool) → isOver p ≡ t → 1 ≤ linesLeft p → t ≡ false
+    by true e h = absurd (omega (arith, lines-over p e))
+    by false e h = refl
+
+pub none-left : (p : Printing) → linesLeft p ≤ 0 → isOver p ≡ true
+none-left p = by (isOver p) refl
+  where
+    by : (t : Bool) → isOver p ≡ t → linesLeft p ≤ 0 → t ≡ true
+    by true e h = refl
+    by false e h = absurd (omega (arith, lines-next p e))
+
+pub rest-over : (p : Printing) → isOver p ≡ true → restOf p ≡ []
+unfolding restOf
+rest-over p = by (p .stage)
+  where
+    by : (stage : Stage) → overIn stage ≡ true → restBy stage p ≡ []
+    by (Bad number) e = absurd (false≢true e)
+    by Header e = absurd (false≢true e)
+    by Run e = absurd (false≢true e)
+    by Over e = refl
+
+run-fits : (left : ℕ) (p : Printing) → Fits (runLine left p)
+run-fits zero p = settled-fits (p .settled)
+run-fits (suc left) p = step-fits (steppedOf (p .ring))
+
+pub line-fits : (p : Printing) → isOver p ≡ false → Fits (nextLine p)
+unfolding nextLine
+line-fits p = by (p .stage)
+  where
+    by : (stage : Stage) → overIn stage ≡ false → Fits (lineBy stage p)
+    by (Bad number) e = bad-fits number
+    by Header e = header-fits
+    by Run e = run-fits (p .left) p
+    by Over e = absurd (false≢true (sym e))
