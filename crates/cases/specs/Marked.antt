@@ -101,7 +101,7 @@ rules = record {
   output = outputOf;
 }
 
-abbrev every : {A : Type 0} → (A → Bool) → List A → Bool
+abbrev pub every : {A : Type 0} → (A → Bool) → List A → Bool
 every test [] = true
 every test (a ∷ rest) = test a && every test rest
 

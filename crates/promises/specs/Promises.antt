@@ -13,6 +13,7 @@ use Rattle.area.specs.Overlap.{areasOverlap}
 use Rattle.block.specs.Blocks.{blocksOf, octetsOf}
 use Rattle.boundary.specs.Crossing.{figureIn}
 use Rattle.boundary.specs.declared.Answer.{Answer}
+use Rattle.cases.specs.Marked.{every, rules, holds, marked, marked-hold}
 use Rattle.delivered.specs.Boxes.{Box, stationAt, Done}
 use Rattle.delivered.specs.Refusals.{Kept, refused-kept}
 use Rattle.delivered.specs.Rings.{Boxes, stationsIn, Runs, delivered-settles}
@@ -39,8 +40,15 @@ use Rattle.ring.specs.DemandThree.{demand-three-whole}
 use Rattle.ring.specs.Events.{Stations, Event, afterEvent, AllName, CanCome}
 use Rattle.round_trip.specs.ReadBack.{Sendable, fields-read, data-read}
 use Rattle.round_trip.specs.WriteBack.{WrittenBack, written-back}
+use Rattle.settle_print.specs.Joined.{handed, afterFills, printed-whole}
+use Rattle.settle_print.specs.Parts.{printingOf, isOver}
+use Rattle.settle_print.specs.Whole.{outputOf}
+use Rattle.settle_run.specs.Run.{isRing, settledOf, Bounded}
+use Rattle.settle_run.specs.Whole.{Whole as WholeRun, settled-run, settled-bounded}
 use Rattle.settling.specs.First.{FirstAgreement}
-use Rattle.settling.specs.Ring.{_∈_, Ascending}
+use Rattle.settling.specs.Ring.{_∈_, Ascending, Views, Within, Agreed, move, Run}
+use Rattle.settling.specs.Ring as theory
+use Rattle.settling.specs.Settling.{Settles, settles}
 use Rattle.settling.specs.Steps.{afterAll, EachFinds}
 use Rattle.station.specs.Answers.{dataOf}
 use Rattle.station.specs.Apart.{Apart}
@@ -68,6 +76,8 @@ use Rattle.station.specs.declared.Phase.{Phase}
 use Rattle.station.specs.declared.Phase.the-variants.{Off, Listening, Startup, Joining, Participating}
 use Rattle.station.specs.declared.Station.{Station}
 use Rattle.station.specs.declared.Token.{Token}
+use Rattle.views.specs.Views.{stationsOf}
+use Rattle.views.specs.declared.Ring.{Ring}
 use Rattle.writing.specs.Writing.{frameOf, fixed}
 
 -- THE FIRST PRINTED LINE: the refresh cycle on the front panel.
@@ -317,3 +327,30 @@ reads-back fields block can enough = (fields-read fields block can enough, data-
 -- clause 10.1 or the paper fixes for that code", which is the table's.
 pub writes-back : (s : List ℕ) (fields : Fields) → ((at : ℕ) → octetAt s at < 256) → readOf s ≡ Frame fields → WrittenBack s fields
 writes-back = written-back
+
+-- THE VIEWS ALONE, which demand 3 rests on: any ring, all views among its numbers, any list of passes by stations that hold and of silences in
+-- which nobody does, up to its first agreement and after it.
+pub views-settle : {numbers : List ℕ} {views : Views} {events before later : List theory.Event} → theory.Stations numbers → Within numbers views
+    → Run numbers views events → FirstAgreement (move numbers) (Agreed numbers) views events before later
+    → Settles numbers views before later
+views-settle = settles
+
+-- THE PROGRAMS: every octet that is printed is decided by a proved function; only what reading and writing return is free.
+
+-- `settle`: the run of a ring that an input can give is a run of the views, with its first agreement at its end and not before,
+pub settle-run : (ring : Ring) → isRing ring ≡ true → WholeRun ring
+settle-run = settled-run
+
+-- its totals keep the bounds, "n×n×n and (n-1)×(n-1)", and the sharper ones, whatever the value of the ring,
+pub settle-bounds : (ring : Ring) → Bounded (length (stationsOf ring)) (settledOf ring)
+settle-bounds = settled-bounded
+
+-- what is printed for an input is its first bad line, or the column names, the steps of that run and its totals: a program that fills a buffer of
+-- 35 octets or more and hands on its front until nothing is left to print ends, and hands on just these octets.
+pub settle-prints : (buffer octets : List ℕ) → 35 ≤ length buffer
+    → (fills : ℕ) × (isOver (afterFills fills (length buffer) (printingOf octets)) ≡ true) × (handed fills buffer (printingOf octets) ≡ outputOf octets)
+settle-prints = printed-whole
+
+-- THE MARKED CASES of the paper, one table, held against the rules by one check.
+pub marked-cases : every (holds rules) marked ≡ true
+marked-cases = marked-hold
