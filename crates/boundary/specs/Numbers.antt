@@ -1,9 +1,10 @@
 -- The answers as numbers. Refusals, outcomes and phases have the numbers of paper 01; the words of an answer and the kinds of figure are
 -- numbered here.
 use Prim.Native.Nat.{ℕ}
+use mathlib.Core.Bool.{cond}
 use Rattle.frame.specs.Refusals.{numberOf}
 use Rattle.frame.specs.declared.Refusal.{Refusal}
-use Rattle.panel.specs.Panel.{shown}
+use Rattle.panel.specs.Panel.{isOver, shown}
 use Rattle.panel.specs.declared.Figure.{Figure}
 use Rattle.panel.specs.declared.Figure.the-variants.{Nothing, Over, Gap}
 use Rattle.station.specs.Answers.{dataNumber, tokenNumber, dataOf}
@@ -16,6 +17,7 @@ use Rattle.station.specs.declared.Switched.the-variants as switched
 use Rattle.station.specs.declared.Ticked.{Ticked}
 use Rattle.station.specs.declared.Ticked.the-variants as ticked
 use Rattle.station.specs.declared.Token.{Token}
+use Rattle.units.specs.declared.Ticks.{Ticks}
 use Rattle.boundary.specs.declared.Answer.{Answer}
 use Rattle.boundary.specs.declared.Shown.{Shown}
 
@@ -57,16 +59,22 @@ abbrev pub askedAnswer : Asked → Answer
 askedAnswer (asked.Octets octets) = frameAnswer octets
 askedAnswer (asked.Refused refusal) = refusedAnswer refusal
 
--- the kinds of figure: `--`, `OVER`, a gap
+-- the kinds of figure: `--`, `OVER`, a gap. A gap "above 65,535 ticks", which no panel shows, is over.
+abbrev pub gapKind : Ticks → ℕ
+gapKind gap = cond (isOver gap) 1 2
+
 abbrev pub kindOf : Figure → ℕ
 kindOf Nothing = 0
 kindOf Over = 1
-kindOf (Gap ticks) = 2
+kindOf (Gap gap) = gapKind gap
+
+abbrev pub gapTicks : Ticks → ℕ
+gapTicks gap = cond (isOver gap) 0 (gap .0)
 
 abbrev pub ticksOf : Figure → ℕ
 ticksOf Nothing = 0
 ticksOf Over = 0
-ticksOf (Gap ticks) = ticks
+ticksOf (Gap gap) = gapTicks gap
 
 abbrev pub figureNumbers : Figure → Shown
 figureNumbers figure = record { kind = kindOf figure; ticks = ticksOf figure; octets = shown figure .octets; length = shown figure .length }

@@ -26,7 +26,7 @@ use Rattle.station.specs.Hearing.{Hearing, hearOf, headerHeard, participantHear
 use Rattle.station.specs.State.{noTicks}
 use Rattle.station.specs.Ticking.{tickOf, later}
 use Rattle.station.specs.Token.{takes}
-use Rattle.station.specs.Waits.{watchTicks}
+use Rattle.station.specs.Waits.{watchTicks, longestWatch}
 use Rattle.station.specs.declared.Asked.the-variants.{Octets}
 use Rattle.station.specs.declared.Gathering.{Gathering}
 use Rattle.station.specs.declared.Ticked.the-variants.{Done}
@@ -43,7 +43,7 @@ abbrev pub quietAfter : Core → Core
 quietAfter core = record {
   phase = core .phase;
   own = core .own;
-  elapsed = later 2550 (core .elapsed);
+  elapsed = later longestWatch (core .elapsed);
   waited = core .waited;
   rounds = core .rounds;
   sent = core .sent;

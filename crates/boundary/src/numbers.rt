@@ -9,8 +9,9 @@ use station::Heard;
 use station::Switched;
 use station::Ticked;
 use station::Token;
+use units::Ticks;
 ghost use mathlib.Core.Path.{_≡_};
-ghost use Rattle.boundary.specs.Numbers.{offAnswer, doneAnswer, refusedAnswer, switchedAnswer, tickedAnswer, cyclicAnswer, heardAnswer, frameAnswer, askedAnswer, kindOf, ticksOf, figureNumbers};
+ghost use Rattle.boundary.specs.Numbers.{offAnswer, doneAnswer, refusedAnswer, switchedAnswer, tickedAnswer, cyclicAnswer, heardAnswer, frameAnswer, askedAnswer, gapKind, kindOf, gapTicks, ticksOf, figureNumbers};
 ghost use Rattle.station.specs.Answers.{dataNumber, tokenNumber, dataOf};
 
 fn off() -> Answer
@@ -147,14 +148,28 @@ pub fn asked_answer(answer: Asked) -> Answer
     }
 }
 
+// The kind of a gap: over above 65,535 ticks.
+fn gap_kind(gap: Ticks) -> u8
+    ensures { λ r. ⌜ r ≡ gapKind gap ⌝ }
+{
+    if panel::is_over(gap) { 1 } else { 2 }
+}
+
 fn kind_of(figure: Figure) -> u8
     ensures { λ r. ⌜ r ≡ kindOf figure ⌝ }
 {
     match figure {
         Figure::Nothing => 0,
         Figure::Over => 1,
-        Figure::Gap(_) => 2,
+        Figure::Gap(gap) => gap_kind(gap),
     }
+}
+
+// The ticks of a gap that is not over.
+fn gap_ticks(gap: Ticks) -> u16
+    ensures { λ r. ⌜ r ≡ gapTicks gap ⌝ }
+{
+    if panel::is_over(gap) { 0 } else { gap.0 as u16 }
 }
 
 fn ticks_of(figure: Figure) -> u16
@@ -163,7 +178,7 @@ fn ticks_of(figure: Figure) -> u16
     match figure {
         Figure::Nothing => 0,
         Figure::Over => 0,
-        Figure::Gap(ticks) => ticks,
+        Figure::Gap(gap) => gap_ticks(gap),
     }
 }
 

@@ -32,7 +32,7 @@ pub fn quiet(core: Core) -> Core
 {
     let before = core.elapsed;
     let counter = core.panel;
-    let elapsed = states::later(Ticks(2550), before);
+    let elapsed = states::later(states::longest_watch(), before);
     let panel = panel::tick(counter);
     Core {
         elapsed,

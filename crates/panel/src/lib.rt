@@ -1,7 +1,8 @@
 // The front panel's figure: the ticks from one taking of the token to the next.
 use units::Ticks;
 ghost use mathlib.Core.Path.{_≡_};
-ghost use Rattle.panel.specs.Panel.{blank, counted, ticked, taken, figureOf, shown};
+ghost use Prim.Native.Nat.{_≤_};
+ghost use Rattle.panel.specs.Panel.{blank, counted, ticked, taken, isOver, figureOf, overText, tenthsText, gapText, inSix, shown};
 
 // The takings since we began to participate (2 stands for more), the ticks since the last one, and the last finished gap.
 #[repr(C)]
@@ -16,7 +17,7 @@ pub enum Figure {
     Nothing,
     // above 65,535 ticks
     Over,
-    Gap(u16),
+    Gap(Ticks),
 }
 
 // What is shown, in ASCII: the first `length` octets, and zeros behind them.
@@ -65,6 +66,12 @@ pub fn take(panel: Panel) -> Panel
     }
 }
 
+pub fn is_over(gap: Ticks) -> bool
+    ensures { λ r. ⌜ r ≡ isOver gap ⌝ }
+{
+    65535 < gap.0
+}
+
 pub fn figure_of(panel: Panel) -> Figure
     ensures { λ r. ⌜ r ≡ figureOf panel ⌝ }
 {
@@ -72,20 +79,30 @@ pub fn figure_of(panel: Panel) -> Figure
     if panel.takings < 2 {
         return Figure::Nothing;
     }
-    if 65535 < gap.0 {
+    if is_over(gap) {
         return Figure::Over;
     }
-    Figure::Gap(gap.0 as u16)
+    Figure::Gap(gap)
 }
 
-// The text of a gap, in a buffer with zeros behind it.
-fn gap_text(ticks: u16) -> Text
-    ensures { λ r. ⌜ r ≡ shown (Figure.Gap ticks) ⌝ }
+fn over_text() -> Text
+    ensures { λ r. ⌜ r ≡ inSix overText ⌝ }
+{
+    Text {
+        octets: [b'O', b'V', b'E', b'R', 0, 0],
+        length: 4,
+    }
+}
+
+// The text of a gap that is not over, in a buffer with zeros behind it.
+fn tenths_text(gap: Ticks) -> Text
+    requires { ⌜ gap .0 ≤ 65535 ⌝ }
+    ensures { λ r. ⌜ r ≡ inSix (tenthsText gap) ⌝ }
 {
     let mut buffer = [0u8; 16];
-    let point = text::put_decimal(ticks as u32 / 10, &mut buffer, 0);
+    let point = text::put_decimal(gap.0 / 10, &mut buffer, 0);
     buffer[point] = b'.';
-    let length = text::put_decimal(ticks as u32 % 10, &mut buffer, point + 1);
+    let length = text::put_decimal(gap.0 % 10, &mut buffer, point + 1);
     Text {
         octets: [
             buffer[0],
@@ -99,6 +116,16 @@ fn gap_text(ticks: u16) -> Text
     }
 }
 
+fn gap_text(gap: Ticks) -> Text
+    ensures { λ r. ⌜ r ≡ inSix (gapText gap) ⌝ }
+{
+    if is_over(gap) {
+        over_text()
+    } else {
+        tenths_text(gap)
+    }
+}
+
 pub fn text_of(figure: Figure) -> Text
     ensures { λ r. ⌜ r ≡ shown figure ⌝ }
 {
@@ -107,10 +134,7 @@ pub fn text_of(figure: Figure) -> Text
             octets: [b'-', b'-', 0, 0, 0, 0],
             length: 2,
         },
-        Figure::Over => Text {
-            octets: [b'O', b'V', b'E', b'R', 0, 0],
-            length: 4,
-        },
-        Figure::Gap(ticks) => gap_text(ticks),
+        Figure::Over => over_text(),
+        Figure::Gap(gap) => gap_text(gap),
     }
 }

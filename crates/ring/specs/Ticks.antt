@@ -10,6 +10,7 @@ use Rattle.panel.specs.Panel.{ticked as panelTicked}
 use Rattle.settling.specs.Ring.{_∈_, next, silence}
 use Rattle.settling.specs.Simulation.{makes, nothing, Moved}
 use Rattle.station.specs.Ticking.{watchEnds, watchEnded, counted, later}
+use Rattle.station.specs.Waits.{longestWatch}
 use Rattle.station.specs.declared.Station.{Station}
 use Rattle.ring.specs.Events.{Stations, ticked, afterEvent, effectOf, viewsOf, CanCome}
 use Rattle.ring.specs.Member.{InRing, next-same, restarted-in, missed-kept}
@@ -24,7 +25,7 @@ module _ (numbers : List ℕ) (laws-next : (x : ℕ) → x ∈ numbers → next 
 
   -- a tick that does not end the watch
   goes-on : (n : ℕ) → n ∈ numbers → watchEnds (stations n) ≡ false → afterEvent stations ticked n
-      ≡ counted (stations n) (stations n .own) (later 2550 (stations n .elapsed)) (stations n .waited) (panelTicked (stations n .panel))
+      ≡ counted (stations n) (stations n .own) (later longestWatch (stations n .elapsed)) (stations n .waited) (panelTicked (stations n .panel))
   goes-on n m e = rw (ok .each n m .participates, e)
 
   ends : (n : ℕ) → n ∈ numbers → watchEnds (stations n) ≡ true → afterEvent stations ticked n ≡ watchEnded (stations n)
@@ -32,7 +33,7 @@ module _ (numbers : List ℕ) (laws-next : (x : ℕ) → x ∈ numbers → next 
 
   module _ (e : watchEnds (stations (firstOf numbers)) ≡ false) where
     quiet : (n : ℕ) (m : n ∈ numbers) → afterEvent stations ticked n
-        ≡ counted (stations n) (stations n .own) (later 2550 (stations n .elapsed)) (stations n .waited) (panelTicked (stations n .panel))
+        ≡ counted (stations n) (stations n .own) (later longestWatch (stations n .elapsed)) (stations n .waited) (panelTicked (stations n .panel))
     quiet n m = goes-on n m (alike n m ∙ e)
 
     quiet-ok : Ok numbers (afterEvent stations ticked)
@@ -47,7 +48,7 @@ module _ (numbers : List ℕ) (laws-next : (x : ℕ) → x ∈ numbers → next 
       });
       watch = λ n k p q. ap (λ (s : Station). s .own .watch .0) (quiet n p) ∙ ok .watch n k p q ∙ sym (ap (λ (s : Station). s .own .watch .0) (quiet k q));
       elapsed = λ n k p q.
-          ap (λ (s : Station). s .elapsed .0) (quiet n p) ∙ ap (λ (t : ℕ). min 2550 (t + 1)) (ok .elapsed n k p q)
+          ap (λ (s : Station). s .elapsed .0) (quiet n p) ∙ ap (λ (t : ℕ). min longestWatch (t + 1)) (ok .elapsed n k p q)
           ∙ sym (ap (λ (s : Station). s .elapsed .0) (quiet k q));
     }
 

@@ -21,7 +21,7 @@ use Rattle.station.specs.Reachable.{Sound}
 use Rattle.station.specs.Starting.{Switching, need, startOf, stopOf, requestFallen, startedUp}
 use Rattle.station.specs.State.{isOff, fresh}
 use Rattle.station.specs.Ticking.{later, counted, fallsDue, startupTick, joiningWait, joiningTick, watchEnded, watchEnds, participantTick, tickedBy, tickOf}
-use Rattle.station.specs.Waits.{detectionWait, acceptanceTime, numberWait}
+use Rattle.station.specs.Waits.{detectionWait, acceptanceTime, numberWait, longestWatch}
 use Rattle.station.specs.declared.Phase.{Phase}
 use Rattle.station.specs.declared.Phase.the-variants.{Off, Listening, Startup, Joining, Participating}
 use Rattle.station.specs.declared.Settings.{Settings}
@@ -114,7 +114,7 @@ module _ (station : Station) (ok : Sound station) (apart : Apart station) where
           (λ z. second (eqb (station .rounds) 3) (leb (numberWait (station .own .number)) (waited .0)) (rw e at z))
           (λ z f. rw e (both (first (eqb (station .rounds) 3) (leb (numberWait (station .own .number)) (waited .0)) (rw e at z)) f))
 
-  participant-tick : station .phase ≡ Participating → Apart (participantTick station (later 2550 (station .elapsed)))
+  participant-tick : station .phase ≡ Participating → Apart (participantTick station (later longestWatch (station .elapsed)))
   participant-tick e = by (watchEnds station)
     where
       clear : Clear (station .own .areas) (station .members)
@@ -123,7 +123,7 @@ module _ (station : Station) (ok : Sound station) (apart : Apart station) where
       by : (test : Bool) → Apart
           (cond test
           (watchEnded station)
-          (counted station (station .own) (later 2550 (station .elapsed)) (station .waited) (ticked (station .panel))))
+          (counted station (station .own) (later longestWatch (station .elapsed)) (station .waited) (ticked (station .panel))))
       by true = record {
         listed = disjoint-missed (station .members) (station .view) (apart .listed);
         ours = λ z. clear-missed (station .members) (station .view) (station .own .areas) clear;

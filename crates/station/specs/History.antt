@@ -98,7 +98,7 @@ takings (step ∷ earlier) =
 -- "Ticks from one taking of the token to our next .. With fewer than two takings .. `--`; above 65,535 ticks `OVER`." What is shown is the last
 -- gap that a taking has ended.
 abbrev pub gapShown : ℕ → Figure
-gapShown ticks = cond (ltb 65535 ticks) Over (Gap ticks)
+gapShown ticks = cond (ltb 65535 ticks) Over (Gap (record { 0 = ticks }))
 
 abbrev pub lastGap : List ℕ → Figure
 lastGap [] = Nothing

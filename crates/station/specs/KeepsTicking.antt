@@ -20,7 +20,7 @@ use Rattle.station.specs.Reachable.{Ours, Listed, Placed, Shown, limitOf
 use Rattle.station.specs.Starting.{requestFallen, startedUp}
 use Rattle.station.specs.State.{isParticipating, nothing, fresh}
 use Rattle.station.specs.Ticking.{later, counted, fallsDue, startupTick, joiningWait, joiningTick, watchEnded, watchEnds, participantTick, tickedBy, tickOf}
-use Rattle.station.specs.Waits.{detectionWait, acceptanceTime, numberWait, listeningTime, watchTicks}
+use Rattle.station.specs.Waits.{detectionWait, acceptanceTime, numberWait, listeningTime, watchTicks, longestWatch}
 use Rattle.station.specs.declared.Phase.{Phase}
 use Rattle.station.specs.declared.Phase.the-variants.{Off, Listening, Startup, Joining, Participating}
 use Rattle.station.specs.declared.Settings.{Settings}
@@ -175,7 +175,7 @@ module _ (station : Station) (ok : Sound station) where
   struck-placed true false same s e = placed-misses (ok .gathering e) (station .view) (entryOf (station .members) (station .view) .misses + 1)
   struck-placed false strike same s e = ok .gathering e
 
-  participant-tick : station .phase ≡ Participating → Sound (participantTick station (later 2550 (station .elapsed)))
+  participant-tick : station .phase ≡ Participating → Sound (participantTick station (later longestWatch (station .elapsed)))
   participant-tick e = by (watchEnds station) refl
     where
       ours : Ours (station .own)
@@ -184,7 +184,7 @@ module _ (station : Station) (ok : Sound station) where
       by : (test : Bool) → watchEnds station ≡ test → Sound
           (cond test
           (watchEnded station)
-          (counted station (station .own) (later 2550 (station .elapsed)) (station .waited) (ticked (station .panel))))
+          (counted station (station .own) (later longestWatch (station .elapsed)) (station .waited) (ticked (station .panel))))
       by true t =
           restarted-sound station (missed (station .members) (station .view))
           (nextAfter (station .own .number) (station .members) (station .view))
@@ -199,7 +199,7 @@ module _ (station : Station) (ok : Sound station) where
           (ticked-shown (ok .panel))
       by false t =
           let more = leb-false (watchTicks (station .own .watch)) (station .elapsed .0 + 1) t in
-          counted-sound station (later 2550 (station .elapsed)) (station .waited) (ticked (station .panel)) ok (rw e (omega arith)) (ok .waited) (ok .unwaited) (ticked-shown (ok .panel)) (λ s. rw e)
+          counted-sound station (later longestWatch (station .elapsed)) (station .waited) (ticked (station .panel)) ok (rw e (omega arith)) (ok .waited) (ok .unwaited) (ticked-shown (ok .panel)) (λ s. rw e)
 
   tick-in : (phase : Phase) → station .phase ≡ phase → Sound (tickedBy phase station)
   tick-in Off e = ok

@@ -39,12 +39,12 @@ first-taking : figureSaid (joined ++ (pass ∷ replicate 63 tick)) ≡ Nothing
 unfolding headerOf frontOf backOf fixedFor fieldsOf
 first-taking = refl
 
-second-taking : figureSaid again ≡ Gap 63
+second-taking : figureSaid again ≡ Gap (record { 0 = 63 })
 unfolding headerOf frontOf backOf fixedFor fieldsOf
 second-taking = refl
 
 -- the ticks after it belong to a gap that has not ended
-running-on : figureSaid (again ++ (pass ∷ replicate 5 tick)) ≡ Gap 63
+running-on : figureSaid (again ++ (pass ∷ replicate 5 tick)) ≡ Gap (record { 0 = 63 })
 unfolding headerOf frontOf backOf fixedFor fieldsOf
 running-on = refl
 
@@ -54,9 +54,9 @@ unfolding headerOf frontOf backOf fixedFor fieldsOf
 stopped-then = refl
 
 -- and so the panel shows it
-pub shown-again : figureShown (stateAfter never again) ≡ Gap 63
+pub shown-again : figureShown (stateAfter never again) ≡ Gap (record { 0 = 63 })
 shown-again = panel-is-gap again ∙ second-taking
 
 -- a station that is alone in its list passes the token to itself
-alone-passes : lastGap (takings (stepsOn [] (begun one noMembers 1) ((pass ∷ replicate 63 tick) ++ (pass ∷ tick ∷ [])))) ≡ Gap 63
+alone-passes : lastGap (takings (stepsOn [] (begun one noMembers 1) ((pass ∷ replicate 63 tick) ++ (pass ∷ tick ∷ [])))) ≡ Gap (record { 0 = 63 })
 alone-passes = refl

@@ -10,7 +10,7 @@ use Rattle.panel.specs.Panel.{ticked}
 use Rattle.station.specs.Starting.{Switching, need, startedUp}
 use Rattle.station.specs.State.{fresh}
 use Rattle.station.specs.Ticking.{counted, later, joiningWait, fallsDue, watchEnds, watchEnded, tickedBy}
-use Rattle.station.specs.Waits.{acceptanceTime, detectionWait, numberWait}
+use Rattle.station.specs.Waits.{acceptanceTime, detectionWait, numberWait, longestWatch}
 use Rattle.station.specs.declared.Phase.{Phase}
 use Rattle.station.specs.declared.Phase.the-variants.{Off, Listening, Startup, Joining, Participating}
 use Rattle.station.specs.declared.Station.{Station}
@@ -44,9 +44,9 @@ tick-moves Participating station = by (watchEnds (us station))
     by : (ended : Bool) → Moves (us station) true false
         (cond ended
         (watchEnded (us station))
-        (counted (us station) (station .own) (later 2550 (station .elapsed)) (station .waited) (ticked (station .panel))))
+        (counted (us station) (station .own) (later longestWatch (station .elapsed)) (station .waited) (ticked (station .panel))))
     by true = restarts station _ _ _ true
-    by false = only-counts station (later 2550 (station .elapsed))
+    by false = only-counts station (later longestWatch (station .elapsed))
 
 -- start and stop, which a test may refuse
 pub need-moves : (before : Station) (test : Bool) (refusal : Refusal) (rest : Switching) →

@@ -31,7 +31,7 @@ use Rattle.station.specs.State.{isOff, isParticipating, stopped}
 use Rattle.station.specs.Ticking.{later, counted, fallsDue, watchEnded, watchEnds, tickedBy}
 use Rattle.station.specs.Token.{viewHeard}
 use Rattle.station.specs.ViewKept.{Known, known-ours, known-with, known-misses, next-known, smallest-known, missed-known}
-use Rattle.station.specs.Waits.{acceptanceTime}
+use Rattle.station.specs.Waits.{acceptanceTime, longestWatch}
 use Rattle.station.specs.declared.Phase.{Phase}
 use Rattle.station.specs.declared.Phase.the-variants.{Off, Listening, Startup, Joining, Participating}
 use Rattle.station.specs.declared.Station.{Station}
@@ -75,7 +75,7 @@ module _ (station : Station) (ok : Sound station) (seen : Seen station) (elsewhe
       by : (test : Bool) → Seen
           (cond test
           (watchEnded station)
-          (counted station (station .own) (later 2550 (station .elapsed)) (station .waited) (ticked (station .panel))))
+          (counted station (station .own) (later longestWatch (station .elapsed)) (station .waited) (ticked (station .panel))))
       by true = λ p. missed-known (ok .list) (station .view) (seen (rw e))
       by false = seen
 

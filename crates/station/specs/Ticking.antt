@@ -10,7 +10,7 @@ use Rattle.station.specs.Data.{without}
 use Rattle.station.specs.Starting.{ownDue, startedUp}
 use Rattle.station.specs.State.{fresh}
 use Rattle.station.specs.Token.{restarted}
-use Rattle.station.specs.Waits.{detectionWait, acceptanceTime, numberWait, listeningTime, watchTicks}
+use Rattle.station.specs.Waits.{detectionWait, acceptanceTime, numberWait, listeningTime, watchTicks, longestWatch}
 use Rattle.station.specs.declared.Phase.{Phase}
 use Rattle.station.specs.declared.Phase.the-variants.{Off, Listening, Startup, Joining, Participating}
 use Rattle.station.specs.declared.Settings.{Settings}
@@ -89,7 +89,7 @@ tickedBy Off station = station
 tickedBy Listening station = counted station (station .own) (later (listeningTime (station .own .number)) (station .elapsed)) (station .waited) (station .panel)
 tickedBy Startup station = startupTick station (later acceptanceTime (station .elapsed))
 tickedBy Joining station = joiningTick station (later detectionWait (station .elapsed))
-tickedBy Participating station = participantTick station (later 2550 (station .elapsed))
+tickedBy Participating station = participantTick station (later longestWatch (station .elapsed))
 
 -- the call: the state after it, and the answer
 pub record Ticking : Type 0 where

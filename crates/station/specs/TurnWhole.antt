@@ -33,7 +33,7 @@ use Rattle.station.specs.Ticking.{later, tickedBy, counted, fallsDue, st
 use Rattle.station.specs.TurnJoined.{turn-joined}
 use Rattle.units.specs.declared.Ticks.{Ticks}
 use Rattle.panel.specs.Panel.{ticked}
-use Rattle.station.specs.Waits.{detectionWait, acceptanceTime, numberWait}
+use Rattle.station.specs.Waits.{detectionWait, acceptanceTime, numberWait, longestWatch}
 use Rattle.station.specs.declared.Data.the-variants.{Written}
 use Rattle.station.specs.declared.Heard.the-variants as answers
 use Rattle.station.specs.declared.Phase.{Phase}
@@ -88,7 +88,7 @@ module _ {heard : List (List ℕ)} (station : Station) (assembly : List ℕ) (g 
   tick-gathers Listening = g
   tick-gathers Startup = startup-gathers (later acceptanceTime (station .elapsed))
   tick-gathers Joining = joining-gathers (later detectionWait (station .elapsed))
-  tick-gathers Participating = participant-gathers (later 2550 (station .elapsed))
+  tick-gathers Participating = participant-gathers (later longestWatch (station .elapsed))
 
   sent-gathers : (phase : Phase) → Gathers heard (asking.sentIn phase station .gathering) assembly
   sent-gathers Off = g

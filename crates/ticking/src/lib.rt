@@ -148,7 +148,7 @@ fn watch_ended(station: Station) -> Station
 pub fn watch_ends(time: Milliseconds, elapsed: Ticks) -> bool
     ensures { λ r. ⌜ r ≡ leb (watchTicks time) (elapsed .0 + 1) ⌝ }
 {
-    let watch = units::in_ticks(time);
+    let watch = states::watch_ticks(time);
     watch.0 as u64 <= elapsed.0 as u64 + 1
 }
 
@@ -186,7 +186,10 @@ fn tick_on(station: Station) -> Station
         Phase::Listening => listening_tick(station),
         Phase::Startup => startup_tick(station, states::later(states::acceptance_time(), elapsed)),
         Phase::Joining => joining_tick(station, states::later(states::detection_wait(), elapsed)),
-        Phase::Participating => participant_tick(station, states::later(Ticks(2550), elapsed)),
+        Phase::Participating => participant_tick(
+            station,
+            states::later(states::longest_watch(), elapsed),
+        ),
     }
 }
 

@@ -3,7 +3,12 @@
 use Prim.Native.Nat.{_*_}
 use Rattle.units.specs.declared.Ticks.{Ticks}
 use Rattle.units.specs.declared.Milliseconds.{Milliseconds}
+use Rattle.units.specs.declared.Wait.{Wait}
 
--- a time in milliseconds as ticks
-abbrev pub inTicks : Milliseconds → Ticks
-inTicks time = record { 0 = time .0 * 10 }
+-- a watch time is a wait of as many milliseconds
+abbrev pub asWait : Milliseconds → Wait
+asWait watch = record { 0 = watch .0 }
+
+-- a wait in milliseconds as ticks
+abbrev pub inTicks : Wait → Ticks
+inTicks wait = record { 0 = wait .0 * 10 }

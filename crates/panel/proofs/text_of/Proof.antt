@@ -11,6 +11,9 @@ enum-told c = search needs
 enum-told-2 : tie.Need-enum-told-2
 enum-told-2 c = search needs
 
+over-text-requires : tie.Need-over-text-requires
+over-text-requires c κs = search needs
+
 enum-known-figure : tie.Need-enum-known-figure
 enum-known-figure c = search needs
 
@@ -21,7 +24,7 @@ returns : tie.Need-returns
 returns c = rw (c .enum-told .given .1)
 
 returns-2 : tie.Need-returns-2
-returns-2 c = rw (c .enum-told2 .given .1)
+returns-2 c = c .over-text .ensures ∙ ap shown (sym (c .before .enum-told2 .given .1))
 
 returns-3 : tie.Need-returns-3
 returns-3 c = c .gap-text .ensures ∙ ap shown (sym (c .before .before .figure .given .1))
@@ -32,6 +35,7 @@ text-of-spec =
     (tie.spec
     enum-told
     enum-told-2
+    over-text-requires
     enum-known-figure
     gap-text-requires
     returns

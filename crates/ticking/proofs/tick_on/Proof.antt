@@ -42,6 +42,9 @@ joining-tick-requires c κs = search needs
 enum-told-5 : tie.Need-enum-told-5
 enum-told-5 c = search needs
 
+longest-watch-requires : tie.Need-longest-watch-requires
+longest-watch-requires c κs = search needs
+
 later-requires-3 : tie.Need-later-requires-3
 later-requires-3 c κs = search needs
 
@@ -66,8 +69,8 @@ returns-4 c =
 
 returns-5 : tie.Need-returns-5
 returns-5 c =
-    let station = c .before .before .before .before .before .args .station in
-    c .participant-tick .ensures ∙ rw (c .before .later3 .ensures) (sym (ap (λ (p : Phase). tickedBy p station) (c .before .before .enum-told5 .given .1)))
+    let station = c .before .before .before .before .before .before .args .station in
+    c .participant-tick .ensures ∙ rw (c .before .later3 .ensures, c .before .before .longest-watch .ensures) (sym (ap (λ (p : Phase). tickedBy p station) (c .before .before .before .enum-told5 .given .1)))
 
 pub tick-on-spec : {M : Type 1} → statement M
 tick-on-spec =
@@ -85,6 +88,7 @@ tick-on-spec =
     later-requires-2
     joining-tick-requires
     enum-told-5
+    longest-watch-requires
     later-requires-3
     participant-tick-requires
     returns

@@ -3,8 +3,8 @@ use borrow.Author.Needs.{needs}
 use Rattle.ticking.proofs.watch_ends.Statement.{statement}
 use Rattle.ticking.proofs.watch_ends.Tie as tie
 
-in-ticks-requires : tie.Need-in-ticks-requires
-in-ticks-requires c κs = search needs
+watch-ticks-requires : tie.Need-watch-ticks-requires
+watch-ticks-requires c κs = search needs
 
 cast-result : tie.Need-cast-result
 cast-result c = search needs
@@ -16,8 +16,8 @@ add-result : tie.Need-add-result
 add-result c = search needs
 
 returns : tie.Need-returns
-returns c = rw (c .before .before .in-ticks .ensures)
+returns c = rw (c .before .before .watch-ticks .ensures)
 
 pub watch-ends-spec : {M : Type 1} → statement M
 watch-ends-spec =
-    tie.close (tie.spec in-ticks-requires cast-result cast-result-2 add-result returns)
+    tie.close (tie.spec watch-ticks-requires cast-result cast-result-2 add-result returns)

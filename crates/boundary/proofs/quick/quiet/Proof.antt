@@ -3,6 +3,9 @@ use borrow.Author.Needs.{needs}
 use Rattle.boundary.proofs.quick.quiet.Statement.{statement}
 use Rattle.boundary.proofs.quick.quiet.Tie as tie
 
+longest-watch-requires : tie.Need-longest-watch-requires
+longest-watch-requires c κs = search needs
+
 later-requires : tie.Need-later-requires
 later-requires c κs = search needs
 
@@ -10,7 +13,7 @@ tick-requires : tie.Need-tick-requires
 tick-requires c κs = search needs
 
 returns : tie.Need-returns
-returns c = rw (c .before .before .before .tick .ensures, c .before .before .before .before .later .ensures)
+returns c = rw (c .before .before .before .tick .ensures, c .before .before .before .before .later .ensures, c .before .before .before .before .before .longest-watch .ensures)
 
 pub quiet-spec : {M : Type 1} → statement M
-quiet-spec = tie.close (tie.spec later-requires tick-requires returns)
+quiet-spec = tie.close (tie.spec longest-watch-requires later-requires tick-requires returns)
