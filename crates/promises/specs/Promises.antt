@@ -14,6 +14,9 @@ use Rattle.block.specs.Blocks.{blocksOf, octetsOf}
 use Rattle.boundary.specs.Crossing.{figureIn}
 use Rattle.boundary.specs.declared.Answer.{Answer}
 use Rattle.cases.specs.Marked.{every, rules, holds, marked, marked-hold}
+use Rattle.decoding.specs.Gathering as decoded
+use Rattle.decoding.specs.Heard.{line-heard}
+use Rattle.decoding.specs.Line.{lineAnswer, pushedAll, bufferAll}
 use Rattle.delivered.specs.Boxes.{Box, stationAt, Done}
 use Rattle.delivered.specs.Refusals.{Kept, refused-kept}
 use Rattle.delivered.specs.Rings.{Boxes, stationsIn, Runs, delivered-settles}
@@ -350,6 +353,11 @@ settle-bounds = settled-bounded
 pub settle-prints : (buffer octets : List ℕ) → 35 ≤ length buffer
     → (fills : ℕ) × (isOver (afterFills fills (length buffer) (printingOf octets)) ≡ true) × (handed fills buffer (printingOf octets) ≡ outputOf octets)
 settle-prints = printed-whole
+
+-- `decode`: a line of a capture that came octet by octet, of any length, into a buffer of 1121 octets or more, is answered as the whole line.
+pub decode-answers : (line buffer : List ℕ) → 1121 ≤ length buffer
+    → decoded.answered (pushedAll (length buffer) decoded.fresh line) (bufferAll (length buffer) decoded.fresh buffer line) ≡ lineAnswer line
+decode-answers = line-heard
 
 -- THE MARKED CASES of the paper, one table, held against the rules by one check.
 pub marked-cases : every (holds rules) marked ≡ true
