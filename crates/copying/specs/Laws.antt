@@ -1,16 +1,20 @@
 -- Laws of putting one list into another. Assumes nothing.
 use mathlib.Core.Path.{_≡_, _∙_, ap, ap₂, sym}
-use mathlib.Core.List.{List, [], _∷_, _++_, append-assoc}
+use mathlib.Core.List.{List, [], _∷_, _++_, append-assoc, append-nil}
 use Prim.Native.Nat.{ℕ, suc, _+_, _-_, _≤_, _<_}
 use native.Mathlib.Numerals.{add-one}
 use native.Mathlib.Nat.{zero-add, add-zero}
 use native.Mathlib.Omega.{arith}
-use lib.ListN.{length, take, drop, getD, set, take-append-drop, length-append, length-take, length-drop}
-use lib.Seq.{take-append-seam, drop-append-add, drop-drop, drop-cons, append-snoc, set-at, set-split, take-at, take-add, length-take-le}
+use lib.ListN.{length, take, drop, getD, set, take-append-drop, length-append, length-take, length-drop, drop-of-length-le}
+use lib.Seq.{take-append-seam, drop-append-add, drop-drop, drop-cons, append-snoc, set-at, set-split, take-all, take-at, take-add, length-take-le}
 use Rattle.copying.specs.Pasted.{pasted}
 
 pub paste-front : (d s : List ℕ) → pasted d 0 s ≡ s ++ drop (length s) d
 paste-front d s = ap (λ (k : ℕ). s ++ drop k d) (zero-add (length s))
+
+-- and there it is read
+pub front-read : (d s : List ℕ) (n : ℕ) → n ≡ length s → take n (pasted d 0 s) ≡ s
+front-read d s n e = ap (take n) (paste-front d s) ∙ take-at s (drop (length s) d) n (sym e)
 
 -- one list in front, and another right behind it
 pub paste-both : (d s t : List ℕ) → pasted (pasted d 0 s) (length s) t ≡ (s ++ t) ++ drop (length s + length t) d
@@ -72,3 +76,16 @@ paste-piece d s at from to h k room =
     ∙ paste-append d (take from s) piece at (omega (arith, front))
     ∙ ap (λ (l : List ℕ). pasted d at l) (sym (take-add from (to - from) s))
     ∙ ap (λ (n : ℕ). pasted d at (take n s)) end
+
+-- a list put in front of the part from `at` on, where that part stood, is put into the whole
+pub paste-part : (d s : List ℕ) (at : ℕ)
+    → take at d ++ (pasted (take (length d - at) (drop at d)) 0 s ++ drop (length d - at) (drop at d)) ≡ pasted d at s
+paste-part d s at =
+    let all : length (drop at d) ≤ length d - at = rw length-drop (omega arith) in
+    rw (
+      take-all (length d - at) (drop at d) all,
+      drop-of-length-le (drop at d) all,
+      paste-front (drop at d) s,
+      drop-drop (length s) at d,
+      append-nil (s ++ drop (at + length s) d),
+    )

@@ -40,8 +40,8 @@ module _ {size : ℕ} {begun : Printing} where
     has-room on = omega (arith, leb-true room (size - at) (second (not (isOver now)) (leb room (size - at)) on))
 
     -- one line more
-    pub written : goesOn size now at ≡ true → take (at + length (nextLine now)) (restOf begun) ≡ take at (restOf begun) ++ nextLine now
-    written on =
+    pub written : take (at + length (nextLine now)) (restOf begun) ≡ take at (restOf begun) ++ nextLine now
+    written =
         let front = take at (restOf begun) in
         let whole : restOf begun ≡ (front ++ nextLine now) ++ restOf (nextOf now) =
         sym (append-assoc front (nextLine now) (restOf (nextOf now)) ∙ ap (λ (l : List ℕ). front ++ l) (line-next now) ∙ f .joined) in
@@ -53,11 +53,11 @@ module _ {size : ℕ} {begun : Printing} where
     filling-next on = record {
       whole = sym (ap (λ (lines : ℕ). fillFrom lines size now at) (lines-next now (not-over on)) ∙ rw (second (not (isOver now)) (leb room (size - at)) on)) ∙ f .whole;
       joined =
-          ap (λ (l : List ℕ). l ++ restOf (nextOf now)) (written on)
+          ap (λ (l : List ℕ). l ++ restOf (nextOf now)) written
           ∙ append-assoc (take at (restOf begun)) (nextLine now) (restOf (nextOf now))
           ∙ ap (λ (l : List ℕ). take at (restOf begun) ++ l) (line-next now)
           ∙ f .joined;
-      count = ap length (written on) ∙ length-append (take at (restOf begun)) (nextLine now) ∙ ap (λ (k : ℕ). k + length (nextLine now)) (f .count);
+      count = ap length written ∙ length-append (take at (restOf begun)) (nextLine now) ∙ ap (λ (k : ℕ). k + length (nextLine now)) (f .count);
       inside = omega (arith, has-room on, line-fits now (not-over on));
     }
 

@@ -4,9 +4,8 @@ use mathlib.Core.Bool.{Bool, true, false}
 use mathlib.Core.List.{List, [], _++_, append-assoc, append-nil}
 use Prim.Native.Nat.{ℕ, zero, suc, _≤_}
 use native.Mathlib.Omega.{arith}
-use lib.ListN.{length, take, drop}
-use lib.Seq.{take-at}
-use Rattle.copying.specs.Laws.{paste-front, length-pasted}
+use lib.ListN.{length, take}
+use Rattle.copying.specs.Laws.{front-read, length-pasted}
 use Rattle.settle_input.specs.Input.{readOf}
 use Rattle.settle_input.specs.declared.Verdict.{Verdict}
 use Rattle.settle_input.specs.declared.Verdict.the-variants as verdicts
@@ -38,10 +37,7 @@ module _ (size : ℕ) (p : Printing) where
 module _ (p : Printing) (buffer : List ℕ) where
   -- the front of the buffer is the part
   pub front-part : take (filledOf (length buffer) p .length) (bufferAfter p buffer) ≡ partOf (length buffer) p
-  front-part =
-      let part = partOf (length buffer) p in
-      ap (take (filledOf (length buffer) p .length)) (paste-front buffer part)
-      ∙ take-at part (drop (length part) buffer) (filledOf (length buffer) p .length) (part-length (length buffer) p)
+  front-part = front-read buffer (partOf (length buffer) p) (filledOf (length buffer) p .length) (sym (part-length (length buffer) p))
 
   pub buffer-kept : length (bufferAfter p buffer) ≡ length buffer
   buffer-kept = length-pasted buffer (partOf (length buffer) p) 0 (omega (arith, part-length (length buffer) p, filled (length buffer) p .inside))

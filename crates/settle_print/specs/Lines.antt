@@ -1,5 +1,5 @@
 -- Laws of one line: it stands in front of what is still to be printed, and fits. Assumes nothing.
-use mathlib.Core.Path.{_≡_, refl, sym}
+use mathlib.Core.Path.{_≡_, refl, ap, sym}
 use mathlib.Core.Bool.{Bool, true, false, false≢true}
 use mathlib.Core.List.{[], _++_, append-assoc, append-nil}
 use Prim.Native.Nat.{ℕ, zero, suc, _≤_}
@@ -13,14 +13,14 @@ use Rattle.settle_print.specs.declared.Stage.{Stage}
 use Rattle.settle_print.specs.declared.Stage.the-variants.{Bad, Header, Run, Over}
 use Rattle.settle_print.specs.declared.Printing.{Printing}
 
--- so too of a run with so many steps left
+-- a run's next line stands in front of what is to be printed behind it
 run-line : (left : ℕ) (p : Printing) → runLine left p ++ restOf (runNext left p) ≡ stepLines left (p .ring) ++ settledLine (p .settled)
 unfolding restOf stepLines
 run-line zero p = append-nil (settledLine (p .settled))
 run-line (suc left) p =
     sym (append-assoc (stepLine (steppedOf (p .ring))) (stepLines left (steppedOf (p .ring) .ring)) (settledLine (p .settled)))
 
--- the next line stands in front of what is still to be printed behind it
+-- and so does every other
 pub line-next : (p : Printing) → nextLine p ++ restOf (nextOf p) ≡ restOf p
 unfolding nextLine nextOf restOf
 line-next p = by (p .stage)
@@ -46,15 +46,19 @@ lines-next p = by (p .stage)
     by Run e = run-lines (p .left) p
     by Over e = absurd (false≢true (sym e))
 
--- nothing is left of a printing that is over
+-- only one stage is over, and then nothing is left
+over-stage : (stage : Stage) → overIn stage ≡ true → stage ≡ Over
+over-stage (Bad number) e = absurd (false≢true e)
+over-stage Header e = absurd (false≢true e)
+over-stage Run e = absurd (false≢true e)
+over-stage Over e = refl
+
 pub lines-over : (p : Printing) → isOver p ≡ true → linesLeft p ≡ 0
-lines-over p = by (p .stage)
-  where
-    by : (stage : Stage) → overIn stage ≡ true → linesBy stage p ≡ 0
-    by (Bad number) e = absurd (false≢true e)
-    by Header e = absurd (false≢true e)
-    by Run e = absurd (false≢true e)
-    by Over e = refl
+lines-over p e = ap (λ (stage : Stage). linesBy stage p) (over-stage (p .stage) e)
+
+pub rest-over : (p : Printing) → isOver p ≡ true → restOf p ≡ []
+unfolding restOf
+rest-over p e = ap (λ (stage : Stage). restBy stage p) (over-stage (p .stage) e)
 
 pub some-left : (p : Printing) → 1 ≤ linesLeft p → isOver p ≡ false
 some-left p = by (isOver p) refl
@@ -69,16 +73,6 @@ none-left p = by (isOver p) refl
     by : (t : Bool) → isOver p ≡ t → linesLeft p ≤ 0 → t ≡ true
     by true e h = refl
     by false e h = absurd (omega (arith, lines-next p e))
-
-pub rest-over : (p : Printing) → isOver p ≡ true → restOf p ≡ []
-unfolding restOf
-rest-over p = by (p .stage)
-  where
-    by : (stage : Stage) → overIn stage ≡ true → restBy stage p ≡ []
-    by (Bad number) e = absurd (false≢true e)
-    by Header e = absurd (false≢true e)
-    by Run e = absurd (false≢true e)
-    by Over e = refl
 
 run-fits : (left : ℕ) (p : Printing) → Fits (runLine left p)
 run-fits zero p = settled-fits (p .settled)

@@ -6,12 +6,12 @@ use native.Mathlib.Omega.{arith}
 use native.Mathlib.Nat.{sub-zero}
 use lib.ListN.{length, take, replicate, length-take}
 use Rattle.words.specs.Octets.{octetsOf}
+use Rattle.copying.specs.Laws.{front-read}
 use Rattle.copying.specs.Pasted.{pasted}
 use Rattle.replaying.specs.Cut.{hear-cut}
 use Rattle.replies.specs.Replies.{heardText}
 use Rattle.station.specs.Hearing.{Hearing, hearOf}
 use borrow.Author.Needs.{needs}
-use Rattle.replaying.proofs.Buffers.{front-read}
 use Rattle.replaying.proofs.hear.Statement.{statement}
 use Rattle.replaying.proofs.hear.Tie as tie
 

@@ -1,14 +1,13 @@
 -- `settle_print::fill` meets its contract.
 use mathlib.Core.Path.{_≡_, refl, ap, ap₂, sym, subst, _∙_}
 use mathlib.Core.Bool.{Bool, true, false, not, _&&_}
-use mathlib.Core.List.{List, _++_, append-nil}
+use mathlib.Core.List.{List}
 use Prim.Native.Nat.{ℕ, _+_, _-_, _≤_}
 use native.Mathlib.Omega.{arith}
 use lib.Dec.{leb}
-use lib.ListN.{length, take, drop, length-take, length-drop, drop-of-length-le}
-use lib.Seq.{take-all, drop-drop}
-use borrow.Rule.Slice.PartMut.{putMid, midOf}
-use Rattle.copying.specs.Laws.{paste-front, paste-nothing, paste-append, length-pasted}
+use lib.ListN.{length, take, drop, length-take, length-drop}
+use borrow.Rule.Slice.PartMut.{putMid}
+use Rattle.copying.specs.Laws.{paste-nothing, paste-append, paste-part, length-pasted}
 use Rattle.copying.specs.Pasted.{pasted}
 use Rattle.settle_output.specs.Output.{room}
 use Rattle.settle_print.specs.Parts.{restOf, isOver, nextLine, linesLeft}
@@ -29,27 +28,15 @@ Inv-loop buffer₀ now₀ at₀ buffer now at =
 abbrev μ-loop : tie.MeasureT-loop
 μ-loop buffer₀ now₀ at₀ buffer now at = linesLeft now
 
--- a line put in front of the part from `at` on is put into the whole
-put-part : (buffer line : List ℕ) (at : ℕ) → putMid at (length buffer - at) buffer (pasted (midOf at (length buffer - at) buffer) 0 line) ≡ pasted buffer at line
-put-part buffer line at =
-    let all : length (drop at buffer) ≤ length buffer - at = rw length-drop (omega arith) in
-    rw (
-      take-all (length buffer - at) (drop at buffer) all,
-      drop-of-length-le (drop at buffer) all,
-      paste-front (drop at buffer) line,
-      drop-drop (length line) at buffer,
-      append-nil (line ++ drop (at + length line) buffer),
-    )
-
 -- a line put behind those that stand there
-put-more : (buffer : List ℕ) {begun now : Printing} {at : ℕ} → Filling (length buffer) begun now at → goesOn (length buffer) now at ≡ true
+put-more : (buffer : List ℕ) {begun now : Printing} {at : ℕ} → Filling (length buffer) begun now at
     → pasted (pasted buffer 0 (take at (restOf begun))) at (nextLine now) ≡ pasted buffer 0 (take (at + length (nextLine now)) (restOf begun))
-put-more buffer {begun} {now} {at} f on =
+put-more buffer {begun} {now} {at} f =
     let front = take at (restOf begun) in
     let place : at ≡ 0 + length front = omega (arith, f .count) in
     ap (λ (k : ℕ). pasted (pasted buffer 0 front) k (nextLine now)) place
     ∙ paste-append buffer front (nextLine now) 0 (omega (arith, f .count, f .inside))
-    ∙ ap (λ (l : List ℕ). pasted buffer 0 l) (sym (written f on))
+    ∙ ap (λ (l : List ℕ). pasted buffer 0 l) (sym (written f))
 
 -- the loop's test is that of the filling
 tested : (c : tie.After-is-over Inv-loop μ-loop) (t : Bool)
@@ -120,9 +107,9 @@ loop-again c =
     let more = loop .at + put .result .length in
     let same : putMid (loop .at) (length (loop .buffer) - loop .at) (loop .buffer) (put .last .1 .0) ≡ pasted buffer 0 (take more (restOf begun)) =
     ap (putMid (loop .at) (length (loop .buffer) - loop .at) (loop .buffer)) (put .ensures .1)
-    ∙ put-part (loop .buffer) (nextLine (loop .now)) (loop .at)
+    ∙ paste-part (loop .buffer) (nextLine (loop .now)) (loop .at)
     ∙ ap (λ (l : List ℕ). pasted l (loop .at) (nextLine (loop .now))) (loop .inv .1)
-    ∙ put-more buffer (loop .inv .0) (on turn)
+    ∙ put-more buffer (loop .inv .0)
     ∙ ap (λ (n : ℕ). pasted buffer 0 (take (loop .at + n) (restOf begun))) count in
     let inside : 0 + length (take more (restOf begun)) ≤ length buffer = rw (sym count) (omega (arith, filling .count, filling .inside)) in (
       subst (λ (put : Filled). Filling (length buffer) begun (put .printing) (loop .at + put .length)) (sym (put .ensures .0)) filling,
