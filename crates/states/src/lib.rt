@@ -1,11 +1,16 @@
-// The state of a station at the beginning of each phase, the waits, and what the panel shows.
-mod waits;
-
-use area::Areas;
-use area::Part;
+// The state of a station at the beginning of each phase, and what the panel shows; with the parts of a state and the waits.
 use members::Members;
 use panel::Figure;
 use panel::Panel;
+pub use state_parts::holds;
+pub use state_parts::is_off;
+pub use state_parts::is_participating;
+pub use state_parts::no_areas;
+pub use state_parts::nothing;
+pub use state_parts::place_kept;
+pub use state_parts::taken_if;
+pub use state_parts::takes;
+pub use state_parts::without;
 use station::Gathering;
 use station::Phase;
 use station::Settings;
@@ -21,73 +26,13 @@ pub use waits::number_wait;
 pub use waits::watch_ticks;
 ghost use mathlib.Core.Path.{_≡_};
 ghost use mathlib.Core.Bool.{cond};
-ghost use lib.Dec.{eqb};
-ghost use Rattle.panel.specs.Panel.{taken, figureOf};
+ghost use Rattle.panel.specs.Panel.{figureOf};
 ghost use Rattle.panel.specs.declared.Figure.the-variants.{Nothing};
-ghost use Rattle.station.specs.Data.{without as withoutOf};
 ghost use Rattle.station.specs.Showing.{figureShown};
-ghost use Rattle.station.specs.State.{isOff, isParticipating, nothing, fresh as freshOf, stopped as stoppedOf, never as neverOf, holds as holdsOf, begun};
-ghost use Rattle.station.specs.Token.{takes as takesOf, restarted};
+ghost use Rattle.station.specs.State.{isParticipating, fresh as freshOf, stopped as stoppedOf, never as neverOf, begun};
+ghost use Rattle.station.specs.Token.{restarted};
 ghost use Rattle.station.specs.declared.Phase.the-variants.{Off};
 ghost use Rattle.writing.specs.Writing.{noAreas, noWatch};
-
-pub fn is_off(phase: Phase) -> bool
-    ensures { λ r. ⌜ r ≡ isOff phase ⌝ }
-{
-    match phase {
-        Phase::Off => true,
-        Phase::Listening => false,
-        Phase::Startup => false,
-        Phase::Joining => false,
-        Phase::Participating => false,
-    }
-}
-
-pub fn is_participating(phase: Phase) -> bool
-    ensures { λ r. ⌜ r ≡ isParticipating phase ⌝ }
-{
-    match phase {
-        Phase::Off => false,
-        Phase::Listening => false,
-        Phase::Startup => false,
-        Phase::Joining => false,
-        Phase::Participating => true,
-    }
-}
-
-pub fn no_areas() -> Areas
-    ensures { λ r. ⌜ r ≡ noAreas ⌝ }
-{
-    let none = Part {
-        address: 0,
-        size: 0,
-    };
-    Areas {
-        one: none,
-        two: none,
-    }
-}
-
-// Nothing gathered.
-pub fn nothing() -> Gathering
-    ensures { λ r. ⌜ r ≡ nothing ⌝ }
-{
-    Gathering {
-        source: 0,
-        blocks: 0,
-    }
-}
-
-// What was gathered, but not from this source.
-pub fn without(source: u8, gathering: Gathering) -> Gathering
-    ensures { λ r. ⌜ r ≡ withoutOf source gathering ⌝ }
-{
-    if source == gathering.source {
-        nothing()
-    } else {
-        gathering
-    }
-}
 
 // A phase that begins with an empty list.
 pub fn fresh(phase: Phase, own: Settings) -> Station
@@ -135,34 +80,6 @@ pub fn never() -> Station
     ensures { λ r. ⌜ r ≡ neverOf ⌝ }
 {
     off(0)
-}
-
-pub fn holds(station: Station) -> bool
-    ensures { λ r. ⌜ r ≡ holdsOf station ⌝ }
-{
-    let own = station.own;
-    station.view == own.number
-}
-
-// The panel, where a test says whether there is a taking.
-pub fn taken_if(taking: bool, panel: Panel) -> Panel
-    ensures { λ r. ⌜ r ≡ cond taking (taken panel) panel ⌝ }
-{
-    if taking { panel::take(panel) } else { panel }
-}
-
-// Whether a step that moves our view from one number to another is a taking.
-pub fn takes(own: u8, before: u8, after: u8) -> bool
-    ensures { λ r. ⌜ r ≡ takesOf own before after ⌝ }
-{
-    (after == own) & (before != own)
-}
-
-// A station that stops holding forgets how far its turn had come.
-pub fn place_kept(view: u8, own: u8, block: u8) -> u8
-    ensures { λ r. ⌜ r ≡ cond (eqb view own) block 0 ⌝ }
-{
-    if view == own { block } else { 0 }
 }
 
 // A participant whose watch restarts, with another list, view and gathering.

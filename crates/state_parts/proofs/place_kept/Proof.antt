@@ -1,7 +1,7 @@
--- `states::place_kept` meets its contract.
+-- `state_parts::place_kept` meets its contract.
 use borrow.Author.Tests.{eq-eqb, ne-eqb}
-use Rattle.states.proofs.place_kept.Statement.{statement}
-use Rattle.states.proofs.place_kept.Tie as tie
+use Rattle.state_parts.proofs.place_kept.Statement.{statement}
+use Rattle.state_parts.proofs.place_kept.Tie as tie
 
 returns : tie.Need-returns
 returns c = rw (eq-eqb _ _ (c .if1 .taken))

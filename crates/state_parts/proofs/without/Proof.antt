@@ -1,9 +1,9 @@
--- `states::without` meets its contract.
+-- `state_parts::without` meets its contract.
 use mathlib.Core.Path.{_∙_}
 use borrow.Author.Tests.{eq-eqb, ne-eqb}
 use borrow.Author.Needs.{needs}
-use Rattle.states.proofs.without.Statement.{statement}
-use Rattle.states.proofs.without.Tie as tie
+use Rattle.state_parts.proofs.without.Statement.{statement}
+use Rattle.state_parts.proofs.without.Tie as tie
 
 nothing-requires : tie.Need-nothing-requires
 nothing-requires c κs = search needs

@@ -1,10 +1,10 @@
--- `states::waits::later` meets its contract.
+-- `waits::later` meets its contract.
 use mathlib.Core.Path.{_≡_}
 use Prim.Native.Nat.{_+_, min}
 use native.Mathlib.Omega.{arith}
 use borrow.Author.Needs.{needs}
-use Rattle.states.proofs.waits.later.Statement.{statement}
-use Rattle.states.proofs.waits.later.Tie as tie
+use Rattle.waits.proofs.later.Statement.{statement}
+use Rattle.waits.proofs.later.Tie as tie
 
 add-t5 : tie.Need-add-t5
 add-t5 c = search needs

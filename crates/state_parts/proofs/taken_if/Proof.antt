@@ -1,9 +1,9 @@
--- `states::taken_if` meets its contract.
+-- `state_parts::taken_if` meets its contract.
 use mathlib.Core.Path.{_∙_}
 use lib.ListN.{take}
 use borrow.Author.Needs.{needs}
-use Rattle.states.proofs.taken_if.Statement.{statement}
-use Rattle.states.proofs.taken_if.Tie as tie
+use Rattle.state_parts.proofs.taken_if.Statement.{statement}
+use Rattle.state_parts.proofs.taken_if.Tie as tie
 
 take-requires : tie.Need-take-requires
 take-requires c κs = search needs
