@@ -6,17 +6,16 @@ use station::Phase;
 use station::Settings;
 use station::Station;
 use station::Ticked;
-use units::Milliseconds;
 use units::Ticks;
+pub use waits::wait_ends;
+pub use waits::waited_then;
+pub use waits::watch_ends;
 ghost use mathlib.Core.Path.{_≡_};
 ghost use mathlib.Core.Bool.{cond, _&&_};
-ghost use Prim.Native.Nat.{_+_};
-ghost use lib.Dec.{eqb, leb, ltb};
 ghost use Rattle.members.specs.Members.{numbersOf, isListed, strikes};
 ghost use Rattle.station.specs.Data.{without as withoutOf};
 ghost use Rattle.station.specs.Starting.{startedUp};
-ghost use Rattle.station.specs.Ticking.{later, counted, fallsDue, startupTick, joiningTick, watchEnded, participantTick, tickedBy, tickAnswer, tickOf};
-ghost use Rattle.station.specs.Waits.{numberWait, watchTicks};
+ghost use Rattle.station.specs.Ticking.{counted, fallsDue, startupTick, joiningTick, watchEnded, participantTick, tickedBy, tickAnswer, tickOf};
 ghost use Rattle.station.specs.declared.Phase.the-variants as phases;
 
 // A call of tick: the state after it, and the answer.
@@ -36,14 +35,6 @@ fn count(station: Station, own: Settings, elapsed: Ticks, waited: Ticks, panel: 
         panel,
         ..station
     }
-}
-
-// Whether a tick that took a wait from one count to another ends the wait for our number.
-pub fn wait_ends(number: u8, before: Ticks, after: Ticks) -> bool
-    ensures { λ r. ⌜ r ≡ (ltb (before .0) (numberWait number) && leb (numberWait number) (after .0)) ⌝ }
-{
-    let wait = states::number_wait(number);
-    (before.0 < wait.0) & (wait.0 <= after.0)
 }
 
 // Our settings after a tick that took a wait from one count to another.
@@ -84,17 +75,6 @@ fn startup_tick(station: Station, elapsed: Ticks) -> Station
     let waited = station.waited;
     let panel = station.panel;
     count(station, due, elapsed, waited, panel)
-}
-
-// In joining, the wait for our number runs from the end of the third round.
-pub fn waited_then(number: u8, rounds: u8, waited: Ticks) -> Ticks
-    ensures { λ r. ⌜ r ≡ cond (eqb rounds 3) (later (numberWait number) waited) waited ⌝ }
-{
-    if rounds == 3 {
-        states::later(states::number_wait(number), waited)
-    } else {
-        waited
-    }
 }
 
 fn joining_tick(station: Station, elapsed: Ticks) -> Station
@@ -142,14 +122,6 @@ fn watch_ended(station: Station) -> Station
         gathering,
         panel::tick(panel),
     )
-}
-
-// Whether the next tick ends the watch.
-pub fn watch_ends(time: Milliseconds, elapsed: Ticks) -> bool
-    ensures { λ r. ⌜ r ≡ leb (watchTicks time) (elapsed .0 + 1) ⌝ }
-{
-    let watch = states::watch_ticks(time);
-    watch.0 as u64 <= elapsed.0 as u64 + 1
 }
 
 fn participant_tick(station: Station, elapsed: Ticks) -> Station

@@ -1,8 +1,11 @@
-// The waits of clause 8.7, in ticks.
+// The waits of clause 8.7 and the watch, in ticks, and when each ends.
 use units::Milliseconds;
 use units::Ticks;
 use units::Wait;
 ghost use mathlib.Core.Path.{_≡_};
+ghost use mathlib.Core.Bool.{cond, _&&_};
+ghost use Prim.Native.Nat.{_+_};
+ghost use lib.Dec.{eqb, leb, ltb};
 ghost use Rattle.station.specs.Ticking.{later as laterOf};
 ghost use Rattle.station.specs.Waits.{detectionWait, acceptanceTime, numberWait, triggerWait, listeningTime, watchTicks, longestWatch};
 
@@ -58,4 +61,31 @@ pub fn later(most: Ticks, ticks: Ticks) -> Ticks
     } else {
         most
     }
+}
+
+// Whether a tick that took a wait from one count to another ends the wait for our number.
+pub fn wait_ends(number: u8, before: Ticks, after: Ticks) -> bool
+    ensures { λ r. ⌜ r ≡ (ltb (before .0) (numberWait number) && leb (numberWait number) (after .0)) ⌝ }
+{
+    let wait = number_wait(number);
+    (before.0 < wait.0) & (wait.0 <= after.0)
+}
+
+// In joining, the wait for our number runs from the end of the third round.
+pub fn waited_then(number: u8, rounds: u8, waited: Ticks) -> Ticks
+    ensures { λ r. ⌜ r ≡ cond (eqb rounds 3) (laterOf (numberWait number) waited) waited ⌝ }
+{
+    if rounds == 3 {
+        later(number_wait(number), waited)
+    } else {
+        waited
+    }
+}
+
+// Whether the next tick ends the watch.
+pub fn watch_ends(time: Milliseconds, elapsed: Ticks) -> bool
+    ensures { λ r. ⌜ r ≡ leb (watchTicks time) (elapsed .0 + 1) ⌝ }
+{
+    let watch = watch_ticks(time);
+    watch.0 as u64 <= elapsed.0 as u64 + 1
 }

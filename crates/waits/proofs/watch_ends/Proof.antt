@@ -1,7 +1,7 @@
--- `ticking::watch_ends` meets its contract.
+-- `waits::watch_ends` meets its contract.
 use borrow.Author.Needs.{needs}
-use Rattle.ticking.proofs.watch_ends.Statement.{statement}
-use Rattle.ticking.proofs.watch_ends.Tie as tie
+use Rattle.waits.proofs.watch_ends.Statement.{statement}
+use Rattle.waits.proofs.watch_ends.Tie as tie
 
 watch-ticks-requires : tie.Need-watch-ticks-requires
 watch-ticks-requires c κs = search needs

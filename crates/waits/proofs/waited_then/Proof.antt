@@ -1,9 +1,9 @@
--- `ticking::waited_then` meets its contract.
+-- `waits::waited_then` meets its contract.
 use mathlib.Core.Path.{_∙_}
 use borrow.Author.Tests.{eq-eqb, ne-eqb}
 use borrow.Author.Needs.{needs}
-use Rattle.ticking.proofs.waited_then.Statement.{statement}
-use Rattle.ticking.proofs.waited_then.Tie as tie
+use Rattle.waits.proofs.waited_then.Statement.{statement}
+use Rattle.waits.proofs.waited_then.Tie as tie
 
 number-wait-requires : tie.Need-number-wait-requires
 number-wait-requires c κs = search needs
