@@ -11,9 +11,9 @@ pub fn is_due(station: Station) -> bool
     let own = station.own;
     match phase {
         Phase::Off => false,
-        Phase::Listening => starting::trigger_due(station),
-        Phase::Startup => starting::request_fallen(station) & !station.sent,
-        Phase::Joining => starting::request_fallen(station),
-        Phase::Participating => states::holds(station) & sending::is_placed(own, station.block),
+        Phase::Listening => falling_due::trigger_due(station),
+        Phase::Startup => falling_due::request_fallen(station) & !station.sent,
+        Phase::Joining => falling_due::request_fallen(station),
+        Phase::Participating => states::holds(station) & placing::is_placed(own, station.block),
     }
 }

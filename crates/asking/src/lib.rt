@@ -40,12 +40,6 @@ fn refused(station: Station, refusal: Refusal) -> Asking
     Asking { station, answer }
 }
 
-pub fn is_lent_right(memory: &[u8], turn: &[u8], output: &[u8]) -> bool
-    ensures { λ r. ⌜ r ≡ lentRight (now (memory .entry)) (now (turn .entry)) (now (output .entry)) ⌝ }
-{
-    (memory.len() == 17408) & (turn.len() == 17408) & (1088 <= output.len())
-}
-
 // Writes a frame that has its data in the block and its room in the output, so that writing does not refuse it.
 fn write(fields: Fields, block: &[u8], output: &mut [u8]) -> usize
     requires { ⌜ dataSize fields ≤ length (now block) ⌝ }
@@ -86,7 +80,7 @@ fn send_block(station: Station, memory: &[u8], turn: &mut [u8], output: &mut [u8
     let own = station.own;
     let number = own.number;
     let members = station.members;
-    let next = members::next_after(number, members, number);
+    let next = searching::next_after(number, members, number);
     let octets = sending::send_next(own, station.block, next, memory, turn, output);
     let answer = Asked::Octets(octets);
     let station = block_sent(station, next);
@@ -128,7 +122,7 @@ pub fn ask(station: Station, memory: &[u8], turn: &mut [u8], output: &mut [u8]) 
     ensures { λ _. ⌜ now (turn .exit) ≡ askOf station (now (memory .entry)) (now (turn .entry)) (now (output .entry)) .turn ⌝ }
     ensures { λ _. ⌜ now (output .exit) ≡ askOf station (now (memory .entry)) (now (turn .entry)) (now (output .entry)) .output ⌝ }
 {
-    if !is_lent_right(memory, turn, output) {
+    if !placing::is_lent_right(memory, turn, output) {
         return refused(station, Refusal::Buffer);
     }
     if !is_due(station) {

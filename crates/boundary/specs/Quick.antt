@@ -12,7 +12,7 @@ use Rattle.station.specs.Asking.{placedIn, lastIn, nextFields, turnFor}
 use Rattle.block.specs.Blocks.{startOf}
 use Rattle.frame.specs.Codes.{isToken, isCyclic}
 use Rattle.frame.specs.declared.Fields.{Fields}
-use Rattle.hearing.specs.Body.{body-same, body-read}
+use Rattle.heard_data.specs.Body.{body-same, body-read}
 use Rattle.laws.specs.Tests.{first, second}
 use Rattle.members.specs.Members.{isListed, nextAfter}
 use Rattle.members.specs.declared.Members.{Members}

@@ -10,7 +10,7 @@ ghost use mathlib.Core.Path.{_≡_};
 ghost use mathlib.Core.Bool.{true};
 ghost use lib.ListN.{length};
 ghost use Rattle.frame.specs.Codes.{isCyclic};
-ghost use Rattle.hearing.specs.Parts.{outcomeBy};
+ghost use Rattle.token.specs.Parts.{outcomeBy};
 ghost use Rattle.boundary.specs.Numbers.{cyclicAnswer};
 ghost use Rattle.boundary.specs.Quick.{isQuiet, quietAfter, restartedCore, isAccepted, holdsBlock, sentCore};
 ghost use Rattle.reading.specs.Reading.{readBodyOf, dataOf};
@@ -90,11 +90,11 @@ pub fn hear_accepted(
 {
     let before = core.gathering;
     let number = core.own.number;
-    let stored = hearing::gather_frame(before, listed, frame, octets, memory, assembly);
+    let stored = heard_data::gather_frame(before, listed, frame, octets, memory, assembly);
     let after = stored.gathering;
     let outcome = stored.outcome;
-    let answer = cyclic(hearing::outcome_of(number, core.view, frame, outcome));
-    let view = hearing::view_heard(core.view, frame);
+    let answer = cyclic(token::outcome_of(number, core.view, frame, outcome));
+    let view = token::view_heard(core.view, frame);
     let core = restart(core, view, after);
     Outcome { core, answer }
 }
@@ -103,7 +103,7 @@ pub fn holds_block(core: Core) -> bool
     ensures { λ r. ⌜ r ≡ holdsBlock core ⌝ }
 {
     let own = core.own;
-    (core.phase == 4) & ((core.view == own.number) & sending::is_placed(own, core.block))
+    (core.phase == 4) & ((core.view == own.number) & placing::is_placed(own, core.block))
 }
 
 // The core after a block is sent, where `next` is the number next after ours.
@@ -113,7 +113,7 @@ pub fn sent_block(core: Core, next: u8) -> Core
 {
     let own = core.own;
     let counter = core.panel;
-    let after = sending::after_block(own, core.view, core.block, counter, next);
+    let after = placing::after_block(own, core.view, core.block, counter, next);
     let panel = after.panel;
     Core {
         phase: 4,

@@ -1,69 +1,21 @@
 // The station's calls, on its core and its list in arrays. A call that leaves the list alone does not copy it.
 use boundary::Core;
 use boundary::Outcome;
-use boundary::Shown;
+pub use counting::tick;
 use frame::Fields;
 use reading::Read;
-use station::Ticked;
-pub use whole::start;
-pub use whole::stop;
+pub use running::start;
+pub use running::stop;
+pub use showing::new;
+pub use showing::show;
 ghost use mathlib.Core.Path.{_≡_};
-ghost use Rattle.boundary.specs.Crossing.{coreOf, stationIn, figureIn};
-ghost use Rattle.boundary.specs.Numbers.{tickedAnswer, heardAnswer, askedAnswer, figureNumbers};
+ghost use Rattle.boundary.specs.Crossing.{coreOf, stationIn};
+ghost use Rattle.boundary.specs.Numbers.{heardAnswer, askedAnswer};
 ghost use Rattle.lists.specs.Lists.{membersIn};
-ghost use Rattle.members.specs.Members.{noMembers};
 ghost use Rattle.reading.specs.Reading.{readOf};
 ghost use Rattle.reading.specs.declared.Read.the-variants as reads;
 ghost use Rattle.station.specs.Asking.{askOf};
 ghost use Rattle.station.specs.Hearing.{hearOf};
-ghost use Rattle.station.specs.State.{never};
-ghost use Rattle.station.specs.Ticking.{tickOf};
-
-// A station that was never started: its state, and its list, which is empty.
-pub fn new(
-    listed: &mut [bool; 256],
-    areas: &mut [u16; 1024],
-    watch: &mut [u8; 256],
-    misses: &mut [u8; 256],
-) -> Core
-    ensures { λ r. ⌜ r ≡ coreOf never ⌝ }
-    ensures { λ _. ⌜ membersIn (now (listed .exit)) (now (areas .exit)) (now (watch .exit)) (now (misses .exit)) ≡ noMembers ⌝ }
-{
-    lists::write(members::no_members(), listed, areas, watch, misses);
-    boundary::outer(states::never())
-}
-
-pub fn tick(
-    core: Core,
-    listed: &mut [bool; 256],
-    areas: &mut [u16; 1024],
-    watch: &mut [u8; 256],
-    misses: &mut [u8; 256],
-) -> Outcome
-    ensures { λ r. ⌜ r .core ≡ coreOf (tickOf (stationIn core (now (listed .entry)) (now (areas .entry)) (now (watch .entry)) (now (misses .entry))) .station) ⌝ }
-    ensures { λ r. ⌜ r .answer ≡ tickedAnswer (tickOf (stationIn core (now (listed .entry)) (now (areas .entry)) (now (watch .entry)) (now (misses .entry))) .answer) ⌝ }
-    ensures { λ _. ⌜ membersIn (now (listed .exit)) (now (areas .exit)) (now (watch .exit)) (now (misses .exit)) ≡ tickOf (stationIn core (now (listed .entry)) (now (areas .entry)) (now (watch .entry)) (now (misses .entry))) .station .members ⌝ }
-{
-    if boundary::is_quiet(core) {
-        return Outcome {
-            core: boundary::quiet(core),
-            answer: boundary::done(),
-        };
-    }
-    if waiting::is_waiting(core) {
-        return Outcome {
-            core: waiting::count(core),
-            answer: boundary::done(),
-        };
-    }
-    if core.phase == 0 {
-        return Outcome {
-            core,
-            answer: boundary::ticked_answer(Ticked::Off),
-        };
-    }
-    whole::tick(core, listed, areas, watch, misses)
-}
 
 fn hear_frame(
     core: Core,
@@ -163,16 +115,8 @@ pub fn ask(
     ensures { λ _. ⌜ now (output .exit) ≡ askOf (stationIn core (now (listed .entry)) (now (areas .entry)) (now (watch .entry)) (now (misses .entry))) (now (memory .entry)) (now (turn .entry)) (now (output .entry)) .output ⌝ }
     ensures { λ _. ⌜ membersIn (now (listed .exit)) (now (areas .exit)) (now (watch .exit)) (now (misses .exit)) ≡ askOf (stationIn core (now (listed .entry)) (now (areas .entry)) (now (watch .entry)) (now (misses .entry))) (now (memory .entry)) (now (turn .entry)) (now (output .entry)) .station .members ⌝ }
 {
-    if boundary::holds_block(core) & asking::is_lent_right(memory, turn, output) {
+    if boundary::holds_block(core) & placing::is_lent_right(memory, turn, output) {
         return in_place::ask(core, listed, areas, watch, misses, memory, turn, output);
     }
     whole::ask(core, listed, areas, watch, misses, memory, turn, output)
-}
-
-// What the front panel shows. The list does not matter to it.
-pub fn show(core: Core) -> Shown
-    ensures { λ r. ⌜ r ≡ figureNumbers (figureIn core) ⌝ }
-{
-    let panel = core.panel;
-    boundary::figure_shown(states::figure_in(boundary::phase_of(core.phase), panel))
 }

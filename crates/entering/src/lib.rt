@@ -2,12 +2,9 @@
 use frame::Code;
 use frame::Fields;
 use members::Members;
-use station::Data;
 use station::Gathering;
-use station::Heard;
 use station::Phase;
 use station::Station;
-use station::Token;
 use units::Ticks;
 ghost use mathlib.Core.Path.{_≡_};
 ghost use mathlib.Core.Bool.{cond};
@@ -15,7 +12,7 @@ ghost use Prim.Native.Nat.{_+_, min};
 ghost use lib.Dec.{ltb};
 ghost use Rattle.frame.specs.Codes.{isToken};
 ghost use Rattle.members.specs.Listing.{listing};
-ghost use Rattle.station.specs.Hearing.{relisted, requested, enters, entersAnswer};
+ghost use Rattle.station.specs.Hearing.{relisted, requested, enters};
 ghost use Rattle.station.specs.Starting.{endsRound, joinedBy};
 ghost use Rattle.station.specs.State.{noTicks, fresh};
 ghost use Rattle.station.specs.declared.Phase.the-variants as phases;
@@ -39,8 +36,8 @@ fn request(station: Station, frame: Fields) -> Station
     let gathering = station.gathering;
     let areas = frame.areas;
     let watch = frame.watch;
-    let ours = starting::ours_due(station);
-    let listed = members::list(members, frame.source, areas, watch, ours);
+    let ours = falling_due::ours_due(station);
+    let listed = listing::list(members, frame.source, areas, watch, ours);
     relist(station, listed, states::without(frame.source, gathering))
 }
 
@@ -68,7 +65,7 @@ fn learn(station: Station, frame: Fields) -> Members
     let areas = frame.areas;
     let watch = frame.watch;
     if station.rounds < 3 {
-        members::list(members, frame.source, areas, watch, states::no_areas())
+        listing::list(members, frame.source, areas, watch, states::no_areas())
     } else {
         members
     }
@@ -187,17 +184,4 @@ pub fn enter(station: Station, frame: Fields) -> Station
         Phase::Joining => joining_hears(station, frame),
         Phase::Participating => member_hears(station, frame),
     }
-}
-
-// The answer to it.
-pub fn answer(phase: Phase, code: Code) -> Heard
-    ensures { λ r. ⌜ r ≡ entersAnswer phase code ⌝ }
-{
-    if states::is_off(phase) {
-        return Heard::Off;
-    }
-    if frame::is_cyclic(code) {
-        return Heard::Cyclic(Token::None(Data::Dropped));
-    }
-    Heard::Done
 }

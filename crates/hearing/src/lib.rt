@@ -1,23 +1,16 @@
 // Hearing a frame.
-mod token;
-
-use area::Areas;
 use frame::Fields;
 use frame::Refusal;
-use gathering::Stored;
 use reading::Read;
-use station::Gathering;
 use station::Heard;
 use station::Station;
-pub use token::outcome_of;
-pub use token::view_heard;
 ghost use mathlib.Core.Path.{_≡_};
 ghost use mathlib.Core.Bool.{true};
 ghost use lib.ListN.{length};
 ghost use Rattle.frame.specs.Codes.{isCyclic};
 ghost use Rattle.reading.specs.Reading.{readBodyOf, dataOf};
 ghost use Rattle.reading.specs.declared.Read.the-variants as reads;
-ghost use Rattle.station.specs.Data.{gathered, gatheredFrom};
+ghost use Rattle.station.specs.Data.{gathered};
 ghost use Rattle.station.specs.Hearing.{knows as knowsOf, isStranger, isTaken, afterTaken, lentRight, participantHeard, accepted, bodyHeard, headerHeard, hearOf};
 
 // A call of hear: the state after it, and the answer.
@@ -75,27 +68,6 @@ fn is_stranger(station: Station, frame: Fields) -> bool
     asked & !known
 }
 
-// What a cyclic frame adds to what was gathered. Its data are a part of the octets heard, and are not copied before they are gathered.
-pub fn gather_frame(
-    before: Gathering,
-    listed: Areas,
-    frame: Fields,
-    octets: &[u8],
-    memory: &mut [u8],
-    assembly: &mut [u8],
-) -> Stored
-    requires { ⌜ lentRight (now memory) (now assembly) ≡ true ⌝ }
-    requires { ⌜ readBodyOf (length (now octets)) frame ≡ reads.Frame frame ⌝ }
-    requires { ⌜ isCyclic (frame .code) ≡ true ⌝ }
-    ensures { λ r. ⌜ r .gathering ≡ gatheredFrom before listed frame (dataOf (now (octets .entry)) frame) (now (assembly .entry)) (now (memory .entry)) .gathering ⌝ }
-    ensures { λ r. ⌜ r .outcome ≡ gatheredFrom before listed frame (dataOf (now (octets .entry)) frame) (now (assembly .entry)) (now (memory .entry)) .outcome ⌝ }
-    ensures { λ _. ⌜ now (memory .exit) ≡ gatheredFrom before listed frame (dataOf (now (octets .entry)) frame) (now (assembly .entry)) (now (memory .entry)) .memory ⌝ }
-    ensures { λ _. ⌜ now (assembly .exit) ≡ gatheredFrom before listed frame (dataOf (now (octets .entry)) frame) (now (assembly .entry)) (now (memory .entry)) .assembly ⌝ }
-{
-    let part = reading::data_of(octets, frame);
-    gathering::gather(before, listed, frame, part, assembly, memory)
-}
-
 // A cyclic frame that a participant accepts.
 fn participant_hears(
     station: Station,
@@ -117,12 +89,12 @@ fn participant_hears(
     let panel = station.panel;
     let entry = members::entry_of(members, frame.source);
     let listed = entry.areas;
-    let stored = gather_frame(before, listed, frame, octets, memory, assembly);
+    let stored = heard_data::gather_frame(before, listed, frame, octets, memory, assembly);
     let after = stored.gathering;
     let outcome = stored.outcome;
     let number = station.own.number;
-    let answer = Heard::Cyclic(outcome_of(number, station.view, frame, outcome));
-    let view = view_heard(station.view, frame);
+    let answer = Heard::Cyclic(token::outcome_of(number, station.view, frame, outcome));
+    let view = token::view_heard(station.view, frame);
     let station = states::restart(
         station,
         members::clear(members, frame.source),
@@ -153,7 +125,7 @@ fn accept(
     if states::is_participating(phase) & frame::is_cyclic(code) {
         return participant_hears(station, frame, octets, memory, assembly);
     }
-    let answer = entering::answer(phase, code);
+    let answer = token::answer(phase, code);
     let after = entering::enter(station, frame);
     Hearing {
         station: after,

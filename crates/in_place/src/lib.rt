@@ -66,7 +66,7 @@ pub fn ask(
     ensures { λ _. ⌜ now (output .exit) ≡ asks.askOf (stationIn core (now (listed .entry)) (now (areas .entry)) (now (watch .entry)) (now (misses .entry))) (now (memory .entry)) (now (turn .entry)) (now (output .entry)) .output ⌝ }
 {
     let own = core.own;
-    let next = lists::next_after(own.number, listed, own.number);
+    let next = flags::next_after(own.number, listed, own.number);
     let octets = sending::send_next(own, core.block, next, memory, turn, output);
     Outcome {
         core: sent_block(core, next),

@@ -2,5 +2,3 @@
 pub mod Lists
 -- Theorems.
 pub mod Laws
-pub mod Storing
-pub mod Search

@@ -1,18 +1,15 @@
 // The station list in arrays of numbers, which a host can lend and a call can change in place. A number's flag, watch time and misses stand
 // at the number's place, its areas in the four places from four times the number on.
-mod search;
-
 use area::Areas;
 use area::Part;
 use members::Entry;
 use members::Members;
-pub use search::next_after;
 use units::Milliseconds;
 ghost use mathlib.Core.Path.{_≡_};
 ghost use mathlib.Core.Bool.{false};
 ghost use lib.ListN.{getD, set};
-ghost use Rattle.members.specs.Members.{entryOf, withEntry};
-ghost use Rattle.lists.specs.Lists.{membersIn, Whole};
+ghost use Rattle.members.specs.Members.{entryOf};
+ghost use Rattle.lists.specs.Lists.{membersIn};
 
 pub fn is_listed(listed: &[bool; 256], number: u8) -> bool
     ensures { λ r. ⌜ r ≡ getD (now (listed .entry)) number false ⌝ }
@@ -54,42 +51,6 @@ pub fn clear(misses: &mut [u8; 256], number: u8)
     misses[number as usize] = 0;
 }
 
-// Stores an entry. Slices, since a proof is told the length of a slice, and not of an array behind a reference.
-fn store(
-    entry: Entry,
-    number: u8,
-    listed: &mut [bool],
-    areas: &mut [u16],
-    watch: &mut [u8],
-    misses: &mut [u8],
-)
-    requires { ⌜ Whole (now listed) (now areas) (now watch) (now misses) ⌝ }
-    ensures { λ _. ⌜ membersIn (now (listed .exit)) (now (areas .exit)) (now (watch .exit)) (now (misses .exit)) ≡ withEntry (membersIn (now (listed .entry)) (now (areas .entry)) (now (watch .entry)) (now (misses .entry))) number entry ⌝ }
-{
-    let place = number as usize;
-    let start = 4 * place;
-    listed[place] = entry.listed;
-    areas[start] = entry.areas.one.address;
-    areas[start + 1] = entry.areas.one.size;
-    areas[start + 2] = entry.areas.two.address;
-    areas[start + 3] = entry.areas.two.size;
-    watch[place] = entry.watch.0;
-    misses[place] = entry.misses;
-}
-
-pub fn put(
-    entry: Entry,
-    number: u8,
-    listed: &mut [bool; 256],
-    areas: &mut [u16; 1024],
-    watch: &mut [u8; 256],
-    misses: &mut [u8; 256],
-)
-    ensures { λ _. ⌜ membersIn (now (listed .exit)) (now (areas .exit)) (now (watch .exit)) (now (misses .exit)) ≡ withEntry (membersIn (now (listed .entry)) (now (areas .entry)) (now (watch .entry)) (now (misses .entry))) number entry ⌝ }
-{
-    store(entry, number, listed, areas, watch, misses);
-}
-
 // The list as one value.
 pub fn members_of(
     listed: &[bool; 256],
@@ -107,23 +68,4 @@ pub fn members_of(
         number += 1;
     }
     Members { entries }
-}
-
-// Writes a list over what the arrays held.
-pub fn write(
-    members: Members,
-    listed: &mut [bool; 256],
-    areas: &mut [u16; 1024],
-    watch: &mut [u8; 256],
-    misses: &mut [u8; 256],
-)
-    ensures { λ _. ⌜ membersIn (now (listed .exit)) (now (areas .exit)) (now (watch .exit)) (now (misses .exit)) ≡ members ⌝ }
-{
-    let entries = members.entries;
-    let mut number: usize = 0;
-    while number < 256 {
-        let entry = entries[number];
-        put(entry, number as u8, listed, areas, watch, misses);
-        number += 1;
-    }
 }

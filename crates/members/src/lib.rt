@@ -1,22 +1,9 @@
-// The station list: what is known of each other station of the ring.
-mod entries;
-mod listing;
-mod search;
-
+// The station list: what is known of each other station of the ring. Misses and striking.
 use area::Areas;
-pub use entries::clear;
-pub use entries::entry_of;
-pub use entries::is_listed;
-pub use entries::miss;
-pub use entries::no_members;
-pub use entries::strikes;
-pub use listing::bare;
-pub use listing::list;
-pub use listing::overlaps_listed;
-pub use search::is_empty;
-pub use search::next_after;
-pub use search::smallest;
+use area::Part;
 use units::Milliseconds;
+ghost use mathlib.Core.Path.{_≡_};
+ghost use Rattle.members.specs.Members.{nobody, noMembers, entryOf, isListed, withEntry, missesSet, cleared, strikes, missed};
 
 // An entry, at the place of its station's number. One that is not listed holds nothing else.
 #[repr(C)]
@@ -30,4 +17,85 @@ pub struct Entry {
 #[repr(C)]
 pub struct Members {
     pub entries: [Entry; 256],
+}
+
+fn unlisted() -> Entry
+    ensures { λ r. ⌜ r ≡ nobody ⌝ }
+{
+    let empty = Part {
+        address: 0,
+        size: 0,
+    };
+    Entry {
+        listed: false,
+        areas: Areas {
+            one: empty,
+            two: empty,
+        },
+        watch: Milliseconds(0),
+        misses: 0,
+    }
+}
+
+pub fn no_members() -> Members
+    ensures { λ r. ⌜ r ≡ noMembers ⌝ }
+{
+    let entry = unlisted();
+    Members {
+        entries: [entry; 256],
+    }
+}
+
+pub fn entry_of(members: Members, number: u8) -> Entry
+    ensures { λ r. ⌜ r ≡ entryOf members number ⌝ }
+{
+    let entries = members.entries;
+    entries[number as usize]
+}
+
+pub fn is_listed(members: Members, number: u8) -> bool
+    ensures { λ r. ⌜ r ≡ isListed members number ⌝ }
+{
+    entry_of(members, number).listed
+}
+
+pub fn with_entry(members: Members, number: u8, entry: Entry) -> Members
+    ensures { λ r. ⌜ r ≡ withEntry members number entry ⌝ }
+{
+    let mut entries = members.entries;
+    entries[number as usize] = entry;
+    Members { entries }
+}
+
+fn with_misses(entry: Entry, misses: u8) -> Entry
+    ensures { λ r. ⌜ r ≡ missesSet misses entry ⌝ }
+{
+    Entry { misses, ..entry }
+}
+
+pub fn clear(members: Members, number: u8) -> Members
+    ensures { λ r. ⌜ r ≡ cleared members number ⌝ }
+{
+    let entry = entry_of(members, number);
+    with_entry(members, number, with_misses(entry, 0))
+}
+
+// Whether the next miss of a station is its third in a row.
+pub fn strikes(members: Members, number: u8) -> bool
+    ensures { λ r. ⌜ r ≡ strikes members number ⌝ }
+{
+    2 <= entry_of(members, number).misses
+}
+
+pub fn miss(members: Members, number: u8) -> Members
+    ensures { λ r. ⌜ r ≡ missed members number ⌝ }
+{
+    let entry = entry_of(members, number);
+    if !entry.listed {
+        return members;
+    }
+    if strikes(members, number) {
+        return with_entry(members, number, unlisted());
+    }
+    with_entry(members, number, with_misses(entry, entry.misses + 1))
 }

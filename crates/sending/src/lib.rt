@@ -1,15 +1,9 @@
-// A participant's block: whether there is one to send, its frame, and what sending it changes. On the parts of a state that it depends on, so that
-// no list is passed by value.
+// A participant's block: its frame. On the parts of a state that it depends on, so that no list is passed by value.
 mod fields;
-mod sent;
 mod turn;
 
 use fields::block_fields;
-pub use fields::is_last;
-pub use fields::is_placed;
 use frame::Fields;
-pub use sent::Sent;
-pub use sent::after_block;
 use station::Settings;
 use turn::make_turn;
 ghost use mathlib.Core.Path.{_≡_};

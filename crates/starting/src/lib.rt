@@ -1,7 +1,5 @@
-// Starting and stopping a station, and when its trigger and its request are due.
-use area::Areas;
+// Starting and stopping a station.
 use frame::Refusal;
-use members::Members;
 use station::Phase;
 use station::Settings;
 use station::Station;
@@ -10,7 +8,7 @@ ghost use mathlib.Core.Path.{_≡_};
 ghost use mathlib.Core.Bool.{_&&_};
 ghost use lib.Dec.{ltb};
 ghost use Rattle.reading.specs.Reading.{isStation};
-ghost use Rattle.station.specs.Starting.{startOf, stopOf, triggerDue, requestFallen, oursDue, ownDue};
+ghost use Rattle.station.specs.Starting.{startOf, stopOf};
 
 // A call of start or stop: the state after it, and the answer.
 pub struct Switching {
@@ -69,55 +67,4 @@ pub fn stop(station: Station) -> Switching
         return refused(station, Refusal::NotDue);
     }
     done(states::stopped(station))
-}
-
-pub fn trigger_due(station: Station) -> bool
-    ensures { λ r. ⌜ r ≡ triggerDue station ⌝ }
-{
-    let own = station.own;
-    let elapsed = station.elapsed;
-    let wait = states::listening_time(own.number);
-    wait.0 <= elapsed.0
-}
-
-// Whether our request has fallen due.
-pub fn request_fallen(station: Station) -> bool
-    ensures { λ r. ⌜ r ≡ requestFallen (station .phase) station ⌝ }
-{
-    let phase = station.phase;
-    let own = station.own;
-    let elapsed = station.elapsed;
-    let waited = station.waited;
-    let wait = states::number_wait(own.number);
-    match phase {
-        Phase::Off => false,
-        Phase::Listening => false,
-        Phase::Startup => wait.0 <= elapsed.0,
-        Phase::Joining => (station.rounds == 3) & (wait.0 <= waited.0),
-        Phase::Participating => true,
-    }
-}
-
-// Our areas once our request has fallen due, else areas that overlap nothing.
-pub fn ours_due(station: Station) -> Areas
-    ensures { λ r. ⌜ r ≡ oursDue station ⌝ }
-{
-    let own = station.own;
-    if request_fallen(station) {
-        own.areas
-    } else {
-        states::no_areas()
-    }
-}
-
-// Our settings when our request falls due: with both sizes 0 where our areas overlap a listed one.
-pub fn own_due(own: Settings, members: Members) -> Settings
-    ensures { λ r. ⌜ r ≡ ownDue own members ⌝ }
-{
-    let areas = own.areas;
-    if members::overlaps_listed(members, areas) {
-        let areas = members::bare(areas);
-        return Settings { areas, ..own };
-    }
-    own
 }

@@ -53,7 +53,7 @@ fn falls_due(station: Station, before: Ticks, after: Ticks) -> Settings
     let own = station.own;
     let members = station.members;
     if wait_ends(own.number, before, after) {
-        starting::own_due(own, members)
+        falling_due::own_due(own, members)
     } else {
         own
     }
@@ -63,10 +63,10 @@ fn falls_due(station: Station, before: Ticks, after: Ticks) -> Settings
 fn start_up(own: Settings, members: Members) -> Station
     ensures { λ r. ⌜ r ≡ startedUp own members (numbersOf members) ⌝ }
 {
-    if members::is_empty(members) {
+    if searching::is_empty(members) {
         return states::fresh(Phase::Listening, own);
     }
-    let smallest = members::smallest(own.number, members);
+    let smallest = searching::smallest(own.number, members);
     states::begin(own, members, smallest)
 }
 
@@ -133,7 +133,7 @@ fn watch_ended(station: Station) -> Station
     let members = station.members;
     let view = station.view;
     let panel = station.panel;
-    let next = members::next_after(own.number, members, view);
+    let next = searching::next_after(own.number, members, view);
     let gathering = left(station);
     states::restart(
         station,

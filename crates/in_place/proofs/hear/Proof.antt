@@ -8,7 +8,7 @@ use lib.ListN.{getD}
 use borrow.Author.Needs.{needs}
 use Rattle.area.specs.declared.Areas.{Areas}
 use Rattle.frame.specs.Codes.{isToken}
-use Rattle.hearing.specs.Parts.{outcomeBy}
+use Rattle.token.specs.Parts.{outcomeBy}
 use Rattle.lists.specs.Laws.{listed-in, cleared-in}
 use Rattle.lists.specs.Lists.{membersIn}
 use Rattle.members.specs.Members.{entryOf, isListed, cleared}

@@ -5,7 +5,7 @@ use Prim.Native.Nat.{ℕ, _+_, _*_}
 use native.Mathlib.Omega.{arith}
 use lib.ListN.{drop, length-drop}
 use borrow.Author.Needs.{needs}
-use Rattle.sending.proofs.Placed.{placed}
+use Rattle.placing.specs.Placed.{placed}
 use Rattle.block.specs.Blocks.{startOf}
 use Rattle.block.specs.Cut.{at-most}
 use Rattle.frame.specs.declared.Fields.{Fields}

@@ -1,7 +1,7 @@
 -- `sending::fields::block_fields` meets its contract.
 use native.Mathlib.Omega.{arith}
 use borrow.Author.Needs.{needs}
-use Rattle.sending.proofs.Placed.{placed, last-equal}
+use Rattle.placing.specs.Placed.{placed, last-equal}
 use Rattle.sending.proofs.fields.block_fields.Statement.{statement}
 use Rattle.sending.proofs.fields.block_fields.Tie as tie
 

@@ -1,0 +1,41 @@
+// A tick: on the core alone where it only counts, else on the whole station.
+use boundary::Core;
+use boundary::Outcome;
+use station::Ticked;
+ghost use mathlib.Core.Path.{_≡_};
+ghost use Rattle.boundary.specs.Crossing.{coreOf, stationIn};
+ghost use Rattle.boundary.specs.Numbers.{tickedAnswer};
+ghost use Rattle.lists.specs.Lists.{membersIn};
+ghost use Rattle.station.specs.Ticking.{tickOf};
+
+pub fn tick(
+    core: Core,
+    listed: &mut [bool; 256],
+    areas: &mut [u16; 1024],
+    watch: &mut [u8; 256],
+    misses: &mut [u8; 256],
+) -> Outcome
+    ensures { λ r. ⌜ r .core ≡ coreOf (tickOf (stationIn core (now (listed .entry)) (now (areas .entry)) (now (watch .entry)) (now (misses .entry))) .station) ⌝ }
+    ensures { λ r. ⌜ r .answer ≡ tickedAnswer (tickOf (stationIn core (now (listed .entry)) (now (areas .entry)) (now (watch .entry)) (now (misses .entry))) .answer) ⌝ }
+    ensures { λ _. ⌜ membersIn (now (listed .exit)) (now (areas .exit)) (now (watch .exit)) (now (misses .exit)) ≡ tickOf (stationIn core (now (listed .entry)) (now (areas .entry)) (now (watch .entry)) (now (misses .entry))) .station .members ⌝ }
+{
+    if boundary::is_quiet(core) {
+        return Outcome {
+            core: boundary::quiet(core),
+            answer: boundary::done(),
+        };
+    }
+    if waiting::is_waiting(core) {
+        return Outcome {
+            core: waiting::count(core),
+            answer: boundary::done(),
+        };
+    }
+    if core.phase == 0 {
+        return Outcome {
+            core,
+            answer: boundary::ticked_answer(Ticked::Off),
+        };
+    }
+    running::tick(core, listed, areas, watch, misses)
+}

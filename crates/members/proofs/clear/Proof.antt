@@ -1,0 +1,21 @@
+-- `members::clear` meets its contract.
+use mathlib.Core.Path.{_∙_}
+use borrow.Author.Needs.{needs}
+use Rattle.members.proofs.clear.Statement.{statement}
+use Rattle.members.proofs.clear.Tie as tie
+
+entry-of-requires : tie.Need-entry-of-requires
+entry-of-requires c κs = search needs
+
+with-misses-requires : tie.Need-with-misses-requires
+with-misses-requires c κs = search needs
+
+with-entry-requires : tie.Need-with-entry-requires
+with-entry-requires c κs = search needs
+
+returns : tie.Need-returns
+returns c = c .with-entry .ensures ∙ rw (c .before .with-misses .ensures, c .before .before .entry-of .ensures)
+
+pub clear-spec : {M : Type 1} → statement M
+clear-spec =
+    tie.close (tie.spec entry-of-requires with-misses-requires with-entry-requires returns)

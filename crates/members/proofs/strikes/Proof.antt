@@ -1,0 +1,16 @@
+-- `members::strikes` meets its contract.
+use mathlib.Core.Path.{ap}
+use lib.Dec.{leb}
+use Rattle.members.specs.declared.Entry.{Entry}
+use borrow.Author.Needs.{needs}
+use Rattle.members.proofs.strikes.Statement.{statement}
+use Rattle.members.proofs.strikes.Tie as tie
+
+entry-of-requires : tie.Need-entry-of-requires
+entry-of-requires c κs = search needs
+
+returns : tie.Need-returns
+returns c = ap (λ (e : Entry). leb 2 (e .misses)) (c .before .entry-of .ensures)
+
+pub strikes-spec : {M : Type 1} → statement M
+strikes-spec = tie.close (tie.spec entry-of-requires returns)

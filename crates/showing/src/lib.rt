@@ -1,0 +1,31 @@
+// A new station, and what a station's front panel shows.
+use boundary::Core;
+use boundary::Shown;
+ghost use mathlib.Core.Path.{_≡_};
+ghost use Rattle.boundary.specs.Crossing.{coreOf, figureIn};
+ghost use Rattle.boundary.specs.Numbers.{figureNumbers};
+ghost use Rattle.lists.specs.Lists.{membersIn};
+ghost use Rattle.members.specs.Members.{noMembers};
+ghost use Rattle.station.specs.State.{never};
+
+// A station that was never started: its state, and its list, which is empty.
+pub fn new(
+    listed: &mut [bool; 256],
+    areas: &mut [u16; 1024],
+    watch: &mut [u8; 256],
+    misses: &mut [u8; 256],
+) -> Core
+    ensures { λ r. ⌜ r ≡ coreOf never ⌝ }
+    ensures { λ _. ⌜ membersIn (now (listed .exit)) (now (areas .exit)) (now (watch .exit)) (now (misses .exit)) ≡ noMembers ⌝ }
+{
+    storing::write(members::no_members(), listed, areas, watch, misses);
+    boundary::outer(states::never())
+}
+
+// What the front panel shows. The list does not matter to it.
+pub fn show(core: Core) -> Shown
+    ensures { λ r. ⌜ r ≡ figureNumbers (figureIn core) ⌝ }
+{
+    let panel = core.panel;
+    boundary::figure_shown(states::figure_in(boundary::phase_of(core.phase), panel))
+}
