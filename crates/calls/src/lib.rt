@@ -9,7 +9,7 @@ pub use whole::start;
 pub use whole::stop;
 ghost use mathlib.Core.Path.{_≡_};
 ghost use Rattle.boundary.specs.Crossing.{coreOf, stationIn, figureIn};
-ghost use Rattle.boundary.specs.Numbers.{tickedAnswer, heardAnswer, askedAnswer, figureNumbers};
+ghost use Rattle.answers.specs.Numbers.{tickedAnswer, heardAnswer, askedAnswer, figureNumbers};
 ghost use Rattle.lists.specs.Lists.{membersIn};
 ghost use Rattle.members.specs.Members.{noMembers};
 ghost use Rattle.reading.specs.Reading.{readOf};

@@ -12,7 +12,7 @@ use station::Settings;
 use station::Station;
 ghost use mathlib.Core.Path.{_≡_};
 ghost use Rattle.boundary.specs.Crossing.{coreOf, stationIn};
-ghost use Rattle.boundary.specs.Numbers.{switchedAnswer, tickedAnswer, heardAnswer, askedAnswer};
+ghost use Rattle.answers.specs.Numbers.{switchedAnswer, tickedAnswer, heardAnswer, askedAnswer};
 ghost use Rattle.lists.specs.Lists.{membersIn};
 ghost use Rattle.station.specs.Asking.{askOf};
 ghost use Rattle.station.specs.Hearing.{hearOf};
