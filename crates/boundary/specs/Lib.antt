@@ -1,5 +1,3 @@
--- The state and the answers as numbers, that nothing is lost by it, and a participant's calls on its core.
+-- The state as numbers, that nothing is lost by it, and a participant's calls on its core.
 pub mod Crossing
-pub mod Numbers
-pub mod Kept
 pub mod Quick

@@ -1,18 +1,19 @@
-// The state and the answers as numbers, for C, and a participant's calls on its state without the list.
+// The state as numbers, for C, and a participant's calls on its state without the list.
 mod across;
-mod numbers;
 mod quick;
 
 pub use across::inner;
 pub use across::outer;
 pub use across::phase_of;
-pub use numbers::asked_answer;
-pub use numbers::done;
-pub use numbers::figure_shown;
-pub use numbers::frame_answer;
-pub use numbers::heard_answer;
-pub use numbers::switched_answer;
-pub use numbers::ticked_answer;
+pub use answers::Answer;
+pub use answers::Shown;
+pub use answers::asked_answer;
+pub use answers::done;
+pub use answers::figure_shown;
+pub use answers::frame_answer;
+pub use answers::heard_answer;
+pub use answers::switched_answer;
+pub use answers::ticked_answer;
 use panel::Panel;
 pub use quick::hear_accepted;
 pub use quick::holds_block;
@@ -40,28 +41,9 @@ pub struct Core {
     pub panel: Panel,
 }
 
-// An answer of any call. What the word does not point to is 0.
-#[repr(C)]
-pub struct Answer {
-    pub word: u8,
-    pub refusal: u8,
-    pub token: u8,
-    pub outcome: u8,
-    pub octets: usize,
-}
-
 // A call's result: the state after it, and the answer.
 #[repr(C)]
 pub struct Outcome {
     pub core: Core,
     pub answer: Answer,
-}
-
-// What the panel shows, and its text.
-#[repr(C)]
-pub struct Shown {
-    pub kind: u8,
-    pub ticks: u16,
-    pub octets: [u8; 6],
-    pub length: usize,
 }

@@ -1,7 +1,7 @@
 // A participant's calls on its core alone.
 use crate::Core;
 use crate::Outcome;
-use crate::numbers::cyclic;
+use answers::cyclic;
 use area::Areas;
 use frame::Fields;
 use station::Gathering;
@@ -11,7 +11,7 @@ ghost use mathlib.Core.Bool.{true};
 ghost use lib.ListN.{length};
 ghost use Rattle.frame.specs.Codes.{isCyclic};
 ghost use Rattle.token.specs.Parts.{outcomeBy};
-ghost use Rattle.boundary.specs.Numbers.{cyclicAnswer};
+ghost use Rattle.answers.specs.Numbers.{cyclicAnswer};
 ghost use Rattle.boundary.specs.Quick.{isQuiet, quietAfter, restartedCore, isAccepted, holdsBlock, sentCore};
 ghost use Rattle.reading.specs.Reading.{readBodyOf, dataOf};
 ghost use Rattle.reading.specs.declared.Read.the-variants as reads;

@@ -10,7 +10,7 @@ pub use showing::new;
 pub use showing::show;
 ghost use mathlib.Core.Path.{_≡_};
 ghost use Rattle.boundary.specs.Crossing.{coreOf, stationIn};
-ghost use Rattle.boundary.specs.Numbers.{heardAnswer, askedAnswer};
+ghost use Rattle.answers.specs.Numbers.{heardAnswer, askedAnswer};
 ghost use Rattle.lists.specs.Lists.{membersIn};
 ghost use Rattle.reading.specs.Reading.{readOf};
 ghost use Rattle.reading.specs.declared.Read.the-variants as reads;

@@ -4,7 +4,7 @@ use boundary::Outcome;
 use station::Ticked;
 ghost use mathlib.Core.Path.{_≡_};
 ghost use Rattle.boundary.specs.Crossing.{coreOf, stationIn};
-ghost use Rattle.boundary.specs.Numbers.{tickedAnswer};
+ghost use Rattle.answers.specs.Numbers.{tickedAnswer};
 ghost use Rattle.lists.specs.Lists.{membersIn};
 ghost use Rattle.station.specs.Ticking.{tickOf};
 

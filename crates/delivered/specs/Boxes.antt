@@ -5,8 +5,8 @@ use mathlib.Core.Bool.{Bool}
 use mathlib.Core.List.{List}
 use Prim.Native.Nat.{ℕ}
 use Rattle.boundary.specs.Crossing.{coreOf, stationIn}
-use Rattle.boundary.specs.Numbers.{switchedAnswer, tickedAnswer, heardAnswer, askedAnswer}
-use Rattle.boundary.specs.declared.Answer.{Answer}
+use Rattle.answers.specs.Numbers.{switchedAnswer, tickedAnswer, heardAnswer, askedAnswer}
+use Rattle.answers.specs.declared.Answer.{Answer}
 use Rattle.boundary.specs.declared.Core.{Core}
 use Rattle.lists.specs.Lists.{membersIn, Whole}
 use Rattle.station.specs.Asking.{askOf}

@@ -6,8 +6,8 @@ use mathlib.Core.List.{List}
 use Prim.Native.Nat.{ℕ, zero, suc, _≤_, _<_}
 use native.Mathlib.Omega.{arith}
 use Rattle.boundary.specs.Crossing.{coreOf, stationOf, station-kept, phaseOf}
-use Rattle.boundary.specs.Numbers.{switchedAnswer, tickedAnswer, heardAnswer, askedAnswer}
-use Rattle.boundary.specs.declared.Answer.{Answer}
+use Rattle.answers.specs.Numbers.{switchedAnswer, tickedAnswer, heardAnswer, askedAnswer}
+use Rattle.answers.specs.declared.Answer.{Answer}
 use Rattle.boundary.specs.declared.Core.{Core}
 use Rattle.frame.specs.Refusals.{numberOf}
 use Rattle.frame.specs.declared.Refusal.{Refusal}

@@ -6,7 +6,7 @@ use boundary::Shown;
 use station::Settings;
 ghost use mathlib.Core.Path.{_≡_};
 ghost use Rattle.boundary.specs.Crossing.{coreOf, stationIn, figureIn};
-ghost use Rattle.boundary.specs.Numbers.{switchedAnswer, tickedAnswer, heardAnswer, askedAnswer, figureNumbers};
+ghost use Rattle.answers.specs.Numbers.{switchedAnswer, tickedAnswer, heardAnswer, askedAnswer, figureNumbers};
 ghost use Rattle.lists.specs.Lists.{membersIn};
 ghost use Rattle.members.specs.Members.{noMembers};
 ghost use Rattle.station.specs.Asking.{askOf};

@@ -9,7 +9,7 @@ ghost use mathlib.Core.Path.{_≡_};
 ghost use mathlib.Core.Bool.{true, false};
 ghost use lib.ListN.{getD};
 ghost use Rattle.boundary.specs.Crossing.{coreOf, stationIn};
-ghost use Rattle.boundary.specs.Numbers.{heardAnswer, askedAnswer};
+ghost use Rattle.answers.specs.Numbers.{heardAnswer, askedAnswer};
 ghost use Rattle.boundary.specs.Quick.{isAccepted, holdsBlock};
 ghost use Rattle.lists.specs.Lists.{membersIn};
 ghost use Rattle.reading.specs.Reading.{readOf};

@@ -12,7 +12,7 @@ use Rattle.area.specs.Areas.{inRange}
 use Rattle.area.specs.Overlap.{areasOverlap}
 use Rattle.block.specs.Blocks.{blocksOf, octetsOf}
 use Rattle.boundary.specs.Crossing.{figureIn}
-use Rattle.boundary.specs.declared.Answer.{Answer}
+use Rattle.answers.specs.declared.Answer.{Answer}
 use Rattle.cases.specs.Marked.{every, rules, holds, marked, marked-hold}
 use Rattle.decoding.specs.Gathering as decoded
 use Rattle.decoding.specs.Heard.{line-heard}

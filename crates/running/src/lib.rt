@@ -6,7 +6,7 @@ use boundary::ticked_answer;
 use station::Settings;
 ghost use mathlib.Core.Path.{_≡_};
 ghost use Rattle.boundary.specs.Crossing.{coreOf, stationIn};
-ghost use Rattle.boundary.specs.Numbers.{switchedAnswer, tickedAnswer};
+ghost use Rattle.answers.specs.Numbers.{switchedAnswer, tickedAnswer};
 ghost use Rattle.lists.specs.Lists.{membersIn};
 ghost use Rattle.station.specs.Starting.{startOf, stopOf};
 ghost use Rattle.station.specs.Ticking.{tickOf};

@@ -3,7 +3,7 @@ use boundary::Core;
 use boundary::Shown;
 ghost use mathlib.Core.Path.{_≡_};
 ghost use Rattle.boundary.specs.Crossing.{coreOf, figureIn};
-ghost use Rattle.boundary.specs.Numbers.{figureNumbers};
+ghost use Rattle.answers.specs.Numbers.{figureNumbers};
 ghost use Rattle.lists.specs.Lists.{membersIn};
 ghost use Rattle.members.specs.Members.{noMembers};
 ghost use Rattle.station.specs.State.{never};

@@ -5,7 +5,7 @@ use boundary::asked_answer;
 use boundary::heard_answer;
 ghost use mathlib.Core.Path.{_≡_};
 ghost use Rattle.boundary.specs.Crossing.{coreOf, stationIn};
-ghost use Rattle.boundary.specs.Numbers.{heardAnswer, askedAnswer};
+ghost use Rattle.answers.specs.Numbers.{heardAnswer, askedAnswer};
 ghost use Rattle.lists.specs.Lists.{membersIn};
 ghost use Rattle.station.specs.Asking.{askOf};
 ghost use Rattle.station.specs.Hearing.{hearOf};

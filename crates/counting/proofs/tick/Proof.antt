@@ -1,5 +1,5 @@
 -- `counting::tick` meets its contract.
-use Rattle.boundary.specs.Numbers.{tickedAnswer}
+use Rattle.answers.specs.Numbers.{tickedAnswer}
 use Rattle.station.specs.Ticking.{Ticking}
 use mathlib.Core.Path.{ap, sym, _∙_}
 use Rattle.lists.specs.Lists.{membersIn}

@@ -1,6 +1,6 @@
 -- `in_place::ask` meets its contract.
 use Rattle.boundary.specs.Quick.{sentCore}
-use Rattle.boundary.specs.Numbers.{frameAnswer, askedAnswer}
+use Rattle.answers.specs.Numbers.{frameAnswer, askedAnswer}
 use Rattle.boundary.specs.Crossing.{coreOf}
 use Rattle.writing.specs.Writing.{wholeLength, outputOf}
 use Rattle.station.specs.Asking.{nextFields, turnFor, Asking}

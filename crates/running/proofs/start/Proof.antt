@@ -1,5 +1,5 @@
 -- `running::start` meets its contract.
-use Rattle.boundary.specs.Numbers.{switchedAnswer}
+use Rattle.answers.specs.Numbers.{switchedAnswer}
 use Rattle.boundary.specs.Crossing.{coreOf}
 use Rattle.station.specs.declared.Station.{Station}
 use Rattle.station.specs.Starting.{startOf}

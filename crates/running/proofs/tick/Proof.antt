@@ -1,5 +1,5 @@
 -- `running::tick` meets its contract.
-use Rattle.boundary.specs.Numbers.{tickedAnswer}
+use Rattle.answers.specs.Numbers.{tickedAnswer}
 use Rattle.boundary.specs.Crossing.{coreOf}
 use Rattle.station.specs.declared.Station.{Station}
 use Rattle.station.specs.Ticking.{tickOf}

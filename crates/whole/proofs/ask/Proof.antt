@@ -1,5 +1,5 @@
 -- `whole::ask` meets its contract.
-use Rattle.boundary.specs.Numbers.{askedAnswer}
+use Rattle.answers.specs.Numbers.{askedAnswer}
 use Rattle.boundary.specs.Crossing.{coreOf}
 use Rattle.station.specs.declared.Station.{Station}
 use Rattle.station.specs.Asking.{askOf}

@@ -1,5 +1,5 @@
 -- `whole::hear` meets its contract.
-use Rattle.boundary.specs.Numbers.{heardAnswer}
+use Rattle.answers.specs.Numbers.{heardAnswer}
 use Rattle.boundary.specs.Crossing.{coreOf}
 use Rattle.station.specs.declared.Station.{Station}
 use Rattle.station.specs.Hearing.{hearOf}

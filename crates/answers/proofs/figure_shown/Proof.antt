@@ -1,7 +1,7 @@
--- `boundary::numbers::figure_shown` meets its contract.
+-- `answers::figure_shown` meets its contract.
 use borrow.Author.Needs.{needs}
-use Rattle.boundary.proofs.numbers.figure_shown.Statement.{statement}
-use Rattle.boundary.proofs.numbers.figure_shown.Tie as tie
+use Rattle.answers.proofs.figure_shown.Statement.{statement}
+use Rattle.answers.proofs.figure_shown.Tie as tie
 
 text-of-requires : tie.Need-text-of-requires
 text-of-requires c κs = search needs

@@ -1,9 +1,9 @@
--- `boundary::numbers::kind_of` meets its contract.
+-- `answers::kind_of` meets its contract.
 use mathlib.Core.Path.{ap, sym, _∙_}
 use borrow.Author.Needs.{needs}
-use Rattle.boundary.specs.Numbers.{kindOf}
-use Rattle.boundary.proofs.numbers.kind_of.Statement.{statement}
-use Rattle.boundary.proofs.numbers.kind_of.Tie as tie
+use Rattle.answers.specs.Numbers.{kindOf}
+use Rattle.answers.proofs.kind_of.Statement.{statement}
+use Rattle.answers.proofs.kind_of.Tie as tie
 
 enum-told : tie.Need-enum-told
 enum-told c = search needs

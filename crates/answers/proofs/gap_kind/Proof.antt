@@ -1,8 +1,8 @@
--- `boundary::numbers::gap_kind` meets its contract.
+-- `answers::gap_kind` meets its contract.
 use mathlib.Core.Path.{sym, _∙_}
 use borrow.Author.Needs.{needs}
-use Rattle.boundary.proofs.numbers.gap_kind.Statement.{statement}
-use Rattle.boundary.proofs.numbers.gap_kind.Tie as tie
+use Rattle.answers.proofs.gap_kind.Statement.{statement}
+use Rattle.answers.proofs.gap_kind.Tie as tie
 
 is-over-requires : tie.Need-is-over-requires
 is-over-requires c κs = search needs

@@ -1,7 +1,7 @@
--- `boundary::numbers::refused` meets its contract.
+-- `answers::refused` meets its contract.
 use borrow.Author.Needs.{needs}
-use Rattle.boundary.proofs.numbers.refused.Statement.{statement}
-use Rattle.boundary.proofs.numbers.refused.Tie as tie
+use Rattle.answers.proofs.refused.Statement.{statement}
+use Rattle.answers.proofs.refused.Tie as tie
 
 number-of-requires : tie.Need-number-of-requires
 number-of-requires c κs = search needs

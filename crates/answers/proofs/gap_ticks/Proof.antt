@@ -1,10 +1,10 @@
--- `boundary::numbers::gap_ticks` meets its contract.
+-- `answers::gap_ticks` meets its contract.
 use mathlib.Core.Path.{sym, _∙_}
 use native.Mathlib.Omega.{arith}
 use borrow.Author.Tests.{ltb-false}
 use borrow.Author.Needs.{needs}
-use Rattle.boundary.proofs.numbers.gap_ticks.Statement.{statement}
-use Rattle.boundary.proofs.numbers.gap_ticks.Tie as tie
+use Rattle.answers.proofs.gap_ticks.Statement.{statement}
+use Rattle.answers.proofs.gap_ticks.Tie as tie
 
 is-over-requires : tie.Need-is-over-requires
 is-over-requires c κs = search needs

@@ -19,8 +19,8 @@ use Rattle.station.specs.declared.Ticked.{Ticked}
 use Rattle.station.specs.declared.Ticked.the-variants as ticked
 use Rattle.station.specs.declared.Token.{Token}
 use Rattle.station.specs.declared.Token.the-variants.{None, PassedOn, OursNow, RivalPassedOver, RivalWon}
-use Rattle.boundary.specs.Numbers.{switchedAnswer, tickedAnswer, heardAnswer, askedAnswer}
-use Rattle.boundary.specs.declared.Answer.{Answer}
+use Rattle.answers.specs.Numbers.{switchedAnswer, tickedAnswer, heardAnswer, askedAnswer}
+use Rattle.answers.specs.declared.Answer.{Answer}
 
 -- the case of each number
 abbrev refusalOf : ℕ → Refusal

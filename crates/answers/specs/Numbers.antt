@@ -18,8 +18,8 @@ use Rattle.station.specs.declared.Ticked.{Ticked}
 use Rattle.station.specs.declared.Ticked.the-variants as ticked
 use Rattle.station.specs.declared.Token.{Token}
 use Rattle.units.specs.declared.Ticks.{Ticks}
-use Rattle.boundary.specs.declared.Answer.{Answer}
-use Rattle.boundary.specs.declared.Shown.{Shown}
+use Rattle.answers.specs.declared.Answer.{Answer}
+use Rattle.answers.specs.declared.Shown.{Shown}
 
 -- "off"
 abbrev pub offAnswer : Answer

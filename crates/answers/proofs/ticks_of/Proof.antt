@@ -1,9 +1,9 @@
--- `boundary::numbers::ticks_of` meets its contract.
+-- `answers::ticks_of` meets its contract.
 use mathlib.Core.Path.{ap, sym, _∙_}
 use borrow.Author.Needs.{needs}
-use Rattle.boundary.specs.Numbers.{ticksOf}
-use Rattle.boundary.proofs.numbers.ticks_of.Statement.{statement}
-use Rattle.boundary.proofs.numbers.ticks_of.Tie as tie
+use Rattle.answers.specs.Numbers.{ticksOf}
+use Rattle.answers.proofs.ticks_of.Statement.{statement}
+use Rattle.answers.proofs.ticks_of.Tie as tie
 
 enum-told : tie.Need-enum-told
 enum-told c = search needs

@@ -1,7 +1,7 @@
--- `boundary::numbers::heard_answer` meets its contract.
+-- `answers::heard_answer` meets its contract.
 use borrow.Author.Needs.{needs}
-use Rattle.boundary.proofs.numbers.heard_answer.Statement.{statement}
-use Rattle.boundary.proofs.numbers.heard_answer.Tie as tie
+use Rattle.answers.proofs.heard_answer.Statement.{statement}
+use Rattle.answers.proofs.heard_answer.Tie as tie
 
 enum-told : tie.Need-enum-told
 enum-told c = search needs

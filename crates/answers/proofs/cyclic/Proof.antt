@@ -1,7 +1,7 @@
--- `boundary::numbers::cyclic` meets its contract.
+-- `answers::cyclic` meets its contract.
 use borrow.Author.Needs.{needs}
-use Rattle.boundary.proofs.numbers.cyclic.Statement.{statement}
-use Rattle.boundary.proofs.numbers.cyclic.Tie as tie
+use Rattle.answers.proofs.cyclic.Statement.{statement}
+use Rattle.answers.proofs.cyclic.Tie as tie
 
 data-of-requires : tie.Need-data-of-requires
 data-of-requires c κs = search needs

@@ -1,6 +1,4 @@
-// The answers as numbers.
-use crate::Answer;
-use crate::Shown;
+// The answers as numbers, for C.
 use frame::Refusal;
 use panel::Figure;
 use station::Asked;
@@ -11,8 +9,27 @@ use station::Ticked;
 use station::Token;
 use units::Ticks;
 ghost use mathlib.Core.Path.{_≡_};
-ghost use Rattle.boundary.specs.Numbers.{offAnswer, doneAnswer, refusedAnswer, switchedAnswer, tickedAnswer, cyclicAnswer, heardAnswer, frameAnswer, askedAnswer, gapKind, kindOf, gapTicks, ticksOf, figureNumbers};
+ghost use Rattle.answers.specs.Numbers.{offAnswer, doneAnswer, refusedAnswer, switchedAnswer, tickedAnswer, cyclicAnswer, heardAnswer, frameAnswer, askedAnswer, gapKind, kindOf, gapTicks, ticksOf, figureNumbers};
 ghost use Rattle.station.specs.Answers.{dataNumber, tokenNumber, dataOf};
+
+// An answer of any call. What the word does not point to is 0.
+#[repr(C)]
+pub struct Answer {
+    pub word: u8,
+    pub refusal: u8,
+    pub token: u8,
+    pub outcome: u8,
+    pub octets: usize,
+}
+
+// What the panel shows, and its text.
+#[repr(C)]
+pub struct Shown {
+    pub kind: u8,
+    pub ticks: u16,
+    pub octets: [u8; 6],
+    pub length: usize,
+}
 
 fn off() -> Answer
     ensures { λ r. ⌜ r ≡ offAnswer ⌝ }

@@ -1,7 +1,7 @@
--- `boundary::numbers::switched_answer` meets its contract.
+-- `answers::switched_answer` meets its contract.
 use borrow.Author.Needs.{needs}
-use Rattle.boundary.proofs.numbers.switched_answer.Statement.{statement}
-use Rattle.boundary.proofs.numbers.switched_answer.Tie as tie
+use Rattle.answers.proofs.switched_answer.Statement.{statement}
+use Rattle.answers.proofs.switched_answer.Tie as tie
 
 enum-told : tie.Need-enum-told
 enum-told c = search needs

@@ -1,7 +1,7 @@
--- `boundary::numbers::asked_answer` meets its contract.
+-- `answers::asked_answer` meets its contract.
 use borrow.Author.Needs.{needs}
-use Rattle.boundary.proofs.numbers.asked_answer.Statement.{statement}
-use Rattle.boundary.proofs.numbers.asked_answer.Tie as tie
+use Rattle.answers.proofs.asked_answer.Statement.{statement}
+use Rattle.answers.proofs.asked_answer.Tie as tie
 
 enum-known-answer : tie.Need-enum-known-answer
 enum-known-answer c = search needs
