@@ -20,6 +20,7 @@ use Rattle.decoding.specs.Line.{lineAnswer, pushedAll, bufferAll}
 use Rattle.delivered.specs.Boxes.{Box, stationAt, Done}
 use Rattle.delivered.specs.Refusals.{Kept, refused-kept}
 use Rattle.delivered.specs.Rings.{Boxes, stationsIn, Runs, delivered-settles}
+use Rattle.feeding.specs.Lines as lines
 use Rattle.frame.specs.Codes.{isToken, isCyclic}
 use Rattle.frame.specs.Octets.{octetAt}
 use Rattle.frame.specs.Refusals.{numberOf, order}
@@ -37,6 +38,8 @@ use Rattle.reading.specs.Reading as reading
 use Rattle.reading.specs.declared.Read.the-variants.{Frame}
 use Rattle.refusals.specs.Applies.{applies, firstOf}
 use Rattle.refusals.specs.FirstApplies.{first-applies}
+use Rattle.replay_lines.specs.Output as replayed
+use Rattle.replay_lines.specs.Replay as replay
 use Rattle.ring.specs.Counts.{passes, silences, given, Does}
 use Rattle.ring.specs.Demand.{LastCall, Disturbed, RingSettles}
 use Rattle.ring.specs.DemandThree.{demand-three-whole}
@@ -358,6 +361,17 @@ settle-prints = printed-whole
 pub decode-answers : (line buffer : List ℕ) → 1121 ≤ length buffer
     → decoded.answered (pushedAll (length buffer) decoded.fresh line) (bufferAll (length buffer) decoded.fresh buffer line) ≡ lineAnswer line
 decode-answers = line-heard
+
+-- `replay`: however the input comes, the station and its buffers are left by each of its whole lines in turn, each doing what `performed` says of
+-- the command that it means, from a station that was never started and buffers of zeros;
+pub replay-performs : (input : List ℕ)
+    → replay.after replay.start input .kept ≡ lines.afterAll replayed.byLine (replay.start .kept) (lines.parted input .lines)
+replay-performs = replayed.input-performed
+
+-- and what is printed is the answers to these lines, and `bad` for a last line without its line feed.
+pub replay-prints : (input : List ℕ)
+    → replay.outputOf input ≡ lines.repliesTo replayed.byLine (replay.start .kept) (lines.parted input .lines) ++ replayed.badRest (lines.parted input .rest)
+replay-prints = replayed.output-lines
 
 -- THE MARKED CASES of the paper, one table, held against the rules by one check.
 pub marked-cases : every (holds rules) marked ≡ true
