@@ -8,9 +8,15 @@ use mathlib.Core.List.{List, [], _∷_, _++_}
 use Prim.Native.Nat.{ℕ, _+_, _-_, _*_, _≤_, _<_}
 use lib.Dec.{eqb}
 use lib.ListN.{length, getD, take}
-use Rattle.area.specs.Areas.{inRange}
-use Rattle.area.specs.Overlap.{areasOverlap}
-use Rattle.block.specs.Blocks.{blocksOf, octetsOf}
+use Rattle.area.specs.Areas.{inArea, inRange}
+use Rattle.area.specs.Overlap.{partsOverlap, areasOverlap}
+use Rattle.area.specs.Within.{Inside, inside}
+use Rattle.area.specs.Words.{Holds, overlap-shared, shared-overlap}
+use Rattle.area.specs.declared.Area.{Area}
+use Rattle.area.specs.declared.Areas.{Areas}
+use Rattle.area.specs.declared.Part.{Part}
+use Rattle.block.specs.Blocks.{octetsOf, blocksOf, startOf, lengthOf}
+use Rattle.block.specs.Cut as cut
 use Rattle.boundary.specs.Crossing.{figureIn}
 use Rattle.answers.specs.declared.Answer.{Answer}
 use Rattle.cases.specs.Marked.{every, rules, holds, marked, marked-hold}
@@ -333,6 +339,26 @@ reads-back fields block can enough = (fields-read fields block can enough, data-
 -- clause 10.1 or the paper fixes for that code", which is the table's.
 pub writes-back : (s : List ℕ) (fields : Fields) → ((at : ℕ) → octetAt s at < 256) → readOf s ≡ Frame fields → WrittenBack s fields
 writes-back = written-back
+
+-- AREAS AND BLOCKS. Two parts of an area overlap just where some word belongs to both,
+pub overlap-is-shared : (a b : Part) → partsOverlap a b ≡ true → (word : ℕ) × Holds a word × Holds b word
+overlap-is-shared = overlap-shared
+
+pub shared-is-overlap : {a b : Part} {word : ℕ} → Holds a word → Holds b word → partsOverlap a b ≡ true
+shared-is-overlap = shared-overlap
+
+-- a part in range has its octets inside its own area of the common memory,
+pub inside-its-area : (area : Area) (part : Part) → inArea area part ≡ true → Inside area part
+inside-its-area = inside
+
+-- and the blocks of a turn cover it: each but the last has 1024 octets, the next starts where it ends, the last ends where the turn does, and
+-- there are at most 17.
+pub blocks-cover : (areas : Areas)
+    → ((block : ℕ) → 1 ≤ block → block < blocksOf areas → lengthOf areas block ≡ 1024)
+    × ((block : ℕ) → 1 ≤ block → block < blocksOf areas → startOf block + lengthOf areas block ≡ startOf (block + 1))
+    × (startOf (blocksOf areas) + lengthOf areas (blocksOf areas) ≡ octetsOf areas)
+    × (inRange areas ≡ true → blocksOf areas ≤ 17)
+blocks-cover areas = (cut.whole areas, cut.joined areas, cut.last areas, cut.seventeen areas)
 
 -- THE VIEWS ALONE, which demand 3 rests on: any ring, all views among its numbers, any list of passes by stations that hold and of silences in
 -- which nobody does, up to its first agreement and after it.
