@@ -1,10 +1,10 @@
 -- Parts of a list, and octets put in front of one. Assumes nothing.
-use mathlib.Core.Path.{_≡_, ap, sym, _∙_}
+use mathlib.Core.Path.{_≡_, sym, _∙_}
 use mathlib.Core.List.{List, _++_, append-nil}
 use Prim.Native.Nat.{ℕ, _+_, _-_, _≤_}
 use native.Mathlib.Omega.{arith}
 use lib.ListN.{length, take, drop, length-drop, drop-of-length-le}
-use lib.Seq.{take-all, take-at, drop-drop}
+use lib.Seq.{take-all, drop-drop}
 use borrow.Rule.Slice.PartMut.{putMid, midOf}
 use Rattle.copying.specs.Laws.{paste-front}
 use Rattle.copying.specs.Pasted.{pasted}
@@ -13,10 +13,6 @@ use Rattle.copying.specs.Pasted.{pasted}
 pub all-behind : (list : List ℕ) (at n m : ℕ) → length list - at ≤ n → length list - at ≤ m → take n (drop at list) ≡ take m (drop at list)
 all-behind list at n m h k =
     take-all n (drop at list) (rw length-drop h) ∙ sym (take-all m (drop at list) (rw length-drop k))
-
--- octets put in front of a buffer stand there
-pub front-read : (buffer octets : List ℕ) (n : ℕ) → n ≡ length octets → take n (pasted buffer 0 octets) ≡ octets
-front-read buffer octets n e = ap (take n) (paste-front buffer octets) ∙ take-at octets (drop (length octets) buffer) n (sym e)
 
 -- octets put in front of the part from `at` on are put into the whole
 pub put-front : (list octets : List ℕ) (at : ℕ) →

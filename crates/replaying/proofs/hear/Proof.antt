@@ -1,17 +1,16 @@
 -- `replaying::hear` meets its contract.
 use mathlib.Core.Path.{ap, _∙_}
 use mathlib.Core.List.{List}
-use Prim.Native.Nat.{ℕ, _-_}
+use Prim.Native.Nat.{ℕ}
 use native.Mathlib.Omega.{arith}
-use native.Mathlib.Nat.{sub-zero}
 use lib.ListN.{length, take, replicate, length-take}
 use Rattle.words.specs.Octets.{octetsOf}
+use Rattle.copying.specs.Front.{front-read}
 use Rattle.copying.specs.Pasted.{pasted}
 use Rattle.replaying.specs.Cut.{hear-cut}
 use Rattle.replies.specs.Replies.{heardText}
 use Rattle.station.specs.Hearing.{Hearing, hearOf}
 use borrow.Author.Needs.{needs}
-use Rattle.replaying.proofs.Buffers.{front-read}
 use Rattle.replaying.proofs.hear.Statement.{statement}
 use Rattle.replaying.proofs.hear.Tie as tie
 
@@ -45,7 +44,7 @@ returns c =
     let text = c .put-heard .ensures in
     let a = c .before .before .before .before .before .before .before .before .before .before .before .before .args in
     let octets = octetsOf (a .digits .now) in
-    let part = ap (take (c .before .before .before .before .before .before .before .before .before .unspell .result - 0)) (told .1) ∙ front-read (replicate 1121 0) (take 1121 octets) (c .before .before .before .before .before .before .before .before .before .unspell .result - 0) (sub-zero (c .before .before .before .before .before .before .before .before .before .unspell .result) ∙ told .0) in
+    let part = front-read (replicate 1121 0) (take 1121 octets) (told .0) (told .1) in
     let whole = ap (λ (o : List ℕ). hearOf (a .station) o (a .memory .now) (a .assembly .now)) part ∙ hear-cut (a .station) octets (a .memory .now) (a .assembly .now) in
     let same = ap heardText (done .1 .0 ∙ ap (λ (h : Hearing). h .answer) whole) in (
       done .0 ∙ ap (λ (h : Hearing). h .station) whole,

@@ -1,0 +1,22 @@
+-- A text that was put in front of a buffer. Assumes nothing.
+use mathlib.Core.Path.{_≡_, ap, sym, _∙_}
+use mathlib.Core.List.{List}
+use Prim.Native.Nat.{ℕ, _-_, _≤_}
+use native.Mathlib.Nat.{sub-zero}
+use native.Mathlib.Omega.{arith}
+use lib.ListN.{length, take, drop, length-append}
+use lib.Seq.{take-at}
+use Rattle.copying.specs.Laws.{paste-front}
+use Rattle.copying.specs.Pasted.{pasted}
+
+module _ (buffer text : List ℕ) {after : List ℕ} {end : ℕ} (e : end ≡ length text) (put : after ≡ pasted buffer 0 text) where
+  -- it is no longer than the buffer
+  pub front-within : end ≤ length after
+  front-within = omega (arith, e, ap length (put ∙ paste-front buffer text) ∙ length-append text (drop (length text) buffer))
+
+  -- and is the part from place 0 to its end
+  pub front-read : take (end - 0) after ≡ text
+  front-read =
+      ap (λ (n : ℕ). take n after) (sub-zero end)
+      ∙ ap (take end) (put ∙ paste-front buffer text)
+      ∙ take-at text (drop (length text) buffer) end (sym e)
