@@ -1,0 +1,23 @@
+-- Every text has a first line feed, or none. Assumes nothing.
+use mathlib.Core.Path.{_≡_, refl, ap}
+use mathlib.Core.Bool.{Bool, true, false}
+use mathlib.Core.List.{List, [], _∷_, _++_}
+use Prim.Native.Nat.{ℕ}
+use lib.Dec.{eqb}
+use borrow.Author.Tests.{eqb-true}
+use Rattle.text.specs.Lines.{lineFeed}
+use Rattle.decoding.specs.Scans.{NoFeed}
+
+-- a text up to its first line feed, and what stands behind it; or one with no line feed
+pub data Cut (text : List ℕ) : Type 0 where
+  feed : (line rest : List ℕ) → NoFeed line → text ≡ line ++ (lineFeed ∷ rest) → Cut text
+  clean : NoFeed text → Cut text
+
+pub cut : (text : List ℕ) → Cut text
+cut [] = clean tt
+cut (octet ∷ text) = by (eqb octet lineFeed) refl (cut text)
+  where
+    by : (t : Bool) → eqb octet lineFeed ≡ t → Cut text → Cut (octet ∷ text)
+    by true e rest = feed [] text tt (ap (λ (n : ℕ). n ∷ text) (eqb-true octet lineFeed e))
+    by false e (feed line rest none same) = feed (octet ∷ line) rest (e, none) (ap (λ (l : List ℕ). octet ∷ l) same)
+    by false e (clean none) = clean (e, none)

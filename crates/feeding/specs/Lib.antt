@@ -1,0 +1,7 @@
+-- The definitions of this crate, and what is proved of them.
+pub mod Feeding
+-- Theorems.
+pub mod Fed
+pub mod Cut
+pub mod Scan
+pub mod Lines
