@@ -1,22 +1,32 @@
 -- `decode::decode_all` meets its contract.
-use mathlib.Core.Path.{_≡_, refl, _∙_}
+use mathlib.Core.Path.{_≡_, refl, ap, sym, _∙_}
+use mathlib.Core.List.{List, [], _++_}
+use Prim.Native.Nat.{ℕ}
 use native.Mathlib.Omega.{arith}
-use lib.ListN.{length}
+use lib.ListN.{length, take}
 use borrow.Author.Tests.{ltb-true}
+use Rattle.decoding.specs.Gathering.{fresh}
+use Rattle.decoding.specs.declared.Gathered.{Gathered}
+use Rattle.feeding.specs.Feeding.{fedAll}
+use Rattle.feeding.specs.Fed.{fed-parts}
+use Rattle.decode.specs.Capture.{Carried, carried, decode}
 use Rattle.decode.proofs.decode_all.Statement.{statement}
 use Rattle.decode.proofs.decode_all.Tie as tie
 
 abbrev Inv-loop : tie.InvT-loop
-Inv-loop frame₀ going₀ turns₀ frame going turns = length frame ≡ length frame₀
+Inv-loop part₀ frame₀ going₀ turns₀ part frame going turns =
+    ((input : List ℕ) × (carried (going .line) frame ≡ fedAll (decode (length frame₀)) (carried fresh frame₀) input))
+    × (length part ≡ length part₀)
+    × (length frame ≡ length frame₀)
 
 abbrev μ-loop : tie.MeasureT-loop
-μ-loop frame₀ going₀ turns₀ frame going turns = turns
+μ-loop part₀ frame₀ going₀ turns₀ part frame going turns = turns
 
 start-requires : tie.Need-start-requires Inv-loop μ-loop
 start-requires c κs = tt
 
 loop-holds : tie.Need-loop-holds Inv-loop μ-loop
-loop-holds c = refl
+loop-holds c = (([], ap (λ (line : Gathered). carried line (c .before .before .before .args .frame .now)) (c .start .ensures)), refl, refl)
 
 decode-some-requires : tie.Need-decode-some-requires Inv-loop μ-loop
 decode-some-requires c κs = tt
@@ -28,13 +38,31 @@ loop-less : tie.Need-loop-less Inv-loop μ-loop
 loop-less c = omega (arith, ltb-true)
 
 loop-again : tie.Need-loop-again Inv-loop μ-loop
-loop-again c = c .before .before .decode-some .kept .1 .0 ∙ c .before .before .before .before .before .before .before .loop .inv
+loop-again c =
+    let a = c .before .before .before .before .before .before .before .before .before .before .before .before .before .before .args in
+    let l = c .before .before .before .before .before .before .before .before .before .before .loop in
+    let done = c .before .before .before .before .decode-some in
+    let more = take (done .result .at) (done .last .1 .0) in
+    let input = l .inv .0 .0 in (
+      (
+        input ++ more,
+        done .ensures .0
+            ∙ ap (λ (n : ℕ). fedAll (decode n) (carried (l .going .line) (l .frame)) more) (l .inv .2)
+            ∙ ap (λ (state : Carried). fedAll (decode (length (a .frame .now))) state more) (l .inv .0 .1)
+            ∙ sym (fed-parts (decode (length (a .frame .now))) input more (carried fresh (a .frame .now))),
+      ),
+      done .kept .1 .0 ∙ l .inv .1,
+      done .kept .1 .1 .0 ∙ l .inv .2,
+    )
 
 same-length : tie.Need-same-length Inv-loop μ-loop
-same-length c = c .before .before .loop .inv
+same-length c = c .before .before .loop .inv .1
+
+same-length-2 : tie.Need-same-length-2 Inv-loop μ-loop
+same-length-2 c = c .before .before .loop .inv .2
 
 returns : tie.Need-returns Inv-loop μ-loop
-returns c = tt
+returns c = c .before .before .loop .inv .0
 
 pub decode-all-spec : {M : Type 1} → statement M
 decode-all-spec =
@@ -49,4 +77,5 @@ decode-all-spec =
     loop-less
     loop-again
     same-length
+    same-length-2
     returns)

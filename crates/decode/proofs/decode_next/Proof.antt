@@ -1,53 +1,63 @@
 -- `decode::decode_next` meets its contract.
-use mathlib.Core.Path.{_≡_, ap, _∙_}
-use mathlib.Core.List.{List}
-use Prim.Native.Nat.{ℕ, suc, _<_}
-use lib.ListN.{length, drop, getD}
-use lib.Seq.{drop-cons}
-use Rattle.decoding.specs.Gathering.{scanned}
-use Rattle.decoding.specs.Scans.{scan-forward}
-use Rattle.decoding.specs.declared.Gathered.{Gathered}
-use Rattle.decoding.specs.declared.Scanned.{Scanned}
+use mathlib.Core.Path.{sym, _∙_}
+use lib.ListN.{replicate}
+use Rattle.feeding.specs.Feeding.{between}
+use Rattle.copying.specs.Front.{front-within, front-read}
+use Rattle.feeding.specs.Scan.{ended-onward, open-onward}
+use Rattle.decode.specs.Capture.{answers}
 use borrow.Author.Needs.{needs}
 use Rattle.decode.proofs.decode_next.Statement.{statement}
 use Rattle.decode.proofs.decode_next.Tie as tie
 
--- a scan that starts before the end of the part goes on
-forward : (room : ℕ) (line : Gathered) (part : List ℕ) (at : ℕ) → at < length part → (r : Scanned) → r ≡ scanned room line at (drop at part) → at < r .next
-forward room line part at h r e = rw (e ∙ ap (scanned room line at) (drop-cons part at 0 h)) (scan-forward room (getD part at 0) (drop (suc at) part) line at)
+take-next-requires : tie.Need-take-next-requires
+take-next-requires c κs = search needs
 
-scan-requires : tie.Need-scan-requires
-scan-requires c κs = search needs
+sub-write-answer : tie.Need-sub-write-answer
+sub-write-answer c = search needs
 
-answer-to-requires : tie.Need-answer-to-requires
-answer-to-requires c κs = search needs
+part-write-answer-start : tie.Need-part-write-answer-start
+part-write-answer-start c = search needs
 
-print-requires : tie.Need-print-requires
-print-requires c κs = search needs
+part-write-answer-end : tie.Need-part-write-answer-end
+part-write-answer-end c =
+    let a = c .before .before .before .before .before .before .before .before .before .before .args in
+    let next = c .before .before .before .before .before .take-next in
+    let text = answers (a .line) (a .frame .now) (between (a .at) (next .result .at) (a .part .now)) in
+    front-within (replicate 160 0) text (next .ensures .1 .0) (next .ensures .1 .1 .0)
 
-start-requires : tie.Need-start-requires
-start-requires c κs = search needs
+write-answer-requires : tie.Need-write-answer-requires
+write-answer-requires c κs =
+    let a = c .before .before .before .before .before .before .before .before .before .before .before .args in
+    let next = c .before .before .before .before .before .before .take-next in
+    let text = answers (a .line) (a .frame .now) (between (a .at) (next .result .at) (a .part .now)) in
+    (a .frame .now, front-read (replicate 160 0) text (next .ensures .1 .0) (next .ensures .1 .1 .0))
 
 same-length : tie.Need-same-length
 same-length c = search needs
 
 returns : tie.Need-returns
-returns c = forward (length (c .before .before .before .before .before .before .before .before .before .before .before .before .args .frame .now)) (c .before .before .before .before .before .before .before .before .before .before .before .before .args .line) (c .before .before .before .before .before .before .before .before .before .before .before .before .args .part .now) (c .before .before .before .before .before .before .before .before .before .before .before .before .args .at) (c .before .before .before .before .before .before .before .before .before .before .before .before .pre) _ (c .before .before .before .before .before .before .before .before .scan .ensures .0)
+returns c =
+    let inside = c .before .before .before .before .before .before .before .before .before .before .before .before .pre in
+    let next = c .before .before .before .before .before .before .before .take-next in
+    (next .ensures .0, ended-onward (next .ensures .1 .1 .1 .1 inside) (sym (next .ensures .1 .1 .1 .0) ∙ c .before .before .before .if1 .taken) (c .write-answer .result))
 
 same-length-2 : tie.Need-same-length-2
 same-length-2 c = search needs
 
 returns-2 : tie.Need-returns-2
-returns-2 c = forward (length (c .before .before .before .before .before .before .before .before .args .frame .now)) (c .before .before .before .before .before .before .before .before .args .line) (c .before .before .before .before .before .before .before .before .args .part .now) (c .before .before .before .before .before .before .before .before .args .at) (c .before .before .before .before .before .before .before .before .pre) _ (c .before .before .before .before .scan .ensures .0)
+returns-2 c =
+    let inside = c .before .before .before .before .before .before .before .before .before .pre in
+    let next = c .before .before .before .before .take-next in (next .ensures .0, open-onward (next .ensures .1 .1 .1 .1 inside))
 
 pub decode-next-spec : {M : Type 1} → statement M
 decode-next-spec =
     tie.close
     (tie.spec
-    scan-requires
-    answer-to-requires
-    print-requires
-    start-requires
+    take-next-requires
+    sub-write-answer
+    part-write-answer-start
+    part-write-answer-end
+    write-answer-requires
     same-length
     returns
     same-length-2
