@@ -1,54 +1,26 @@
 // Drives one station from text: one command a line on standard input, one answer a line on standard output. What a line means, what it does
-// and what is answered is decided by the libraries input_line, commands and replaying; here the input is only handed to them, part by part.
+// and what is answered is decided by the library replay_lines; here the input is only handed to it, part by part.
 use input_line::Line;
-use libc::STDIN_FILENO;
 use libc::STDOUT_FILENO;
+use replay_lines::Going;
 use station::Station;
-ghost use Prim.Native.Nat.{_<_};
-ghost use lib.ListN.{length};
+ghost use mathlib.Core.Path.{_≡_};
+ghost use mathlib.Core.List.{List};
+ghost use Prim.Native.Nat.{ℕ, _<_};
+ghost use lib.ListN.{length, take};
+ghost use Rattle.feeding.specs.Feeding.{between, Onward, Taken, Arrived};
+ghost use Rattle.input_line.specs.Gathering.{fresh};
+ghost use Rattle.replay_lines.specs.Replay.{held, after, Answering, start, answerToRest};
+ghost use Rattle.station.specs.State.{never};
 
-// The station, the line so far, the place in the part of the input that is being read, and whether to go on.
-struct Going {
-    station: Station,
-    line: Line,
-    at: usize,
-    on: bool,
+// Hands an answer to standard output. No contract can say what is written; that it is the answer is asked of the caller.
+fn write_answer(going: Going, part: &[u8], to: usize, text: &[u8]) -> bool
+    requires { ⌜ Answering (going .station) (going .line) (between (going .at) to (now part)) (now text) ⌝ }
+{
+    io::write_all(STDOUT_FILENO, text)
 }
 
-// What a line that has come whole does: the station after it, and whether the answer could be written.
-struct Answered {
-    station: Station,
-    on: bool,
-}
-
-fn answer_line(
-    station: Station,
-    line: Line,
-    stored: &[u8; 34823],
-    memory: &mut [u8; 17408],
-    assembly: &mut [u8; 17408],
-    turn: &mut [u8; 17408],
-    frame: &mut [u8; 1088],
-) -> Answered {
-    let mut answer = [0u8; 40000];
-    let command = commands::command_of(line, stored);
-    let reply = replaying::perform(
-        command,
-        stored,
-        station,
-        memory,
-        assembly,
-        turn,
-        frame,
-        &mut answer,
-    );
-    let length = reply.length;
-    let station = reply.station;
-    let on = io::write_all(STDOUT_FILENO, &answer[0..length]);
-    Answered { station, on }
-}
-
-// Takes the part from place `at` on, up to its next line feed or its end, and answers a line that has ended.
+// Takes the part on by one step of `take_next`, and writes the answer.
 fn replay_next(
     going: Going,
     part: &[u8],
@@ -59,30 +31,42 @@ fn replay_next(
     frame: &mut [u8; 1088],
 ) -> Going
     requires { ⌜ going .at < length (now part) ⌝ }
-    ensures { λ r. ⌜ going .at < r .at ⌝ }
+    ensures { λ r. ⌜ held (r .station) (r .line) (now (stored .exit)) (now (memory .exit)) (now (assembly .exit)) (now (turn .exit)) (now (frame .exit)) ≡ after (held (going .station) (going .line) (now (stored .entry)) (now (memory .entry)) (now (assembly .entry)) (now (turn .entry)) (now (frame .entry))) (between (going .at) (r .at) (now (part .entry))) ⌝ }
+    ensures { λ r. ⌜ Onward (now (part .entry)) (going .at) (r .at) (r .on) ⌝ }
 {
-    let station = going.station;
-    let scanned = input_line::scan(going.line, part, going.at, stored);
-    let line = scanned.line;
-    if scanned.ended {
-        let answered = answer_line(station, line, stored, memory, assembly, turn, frame);
-        let station = answered.station;
-        let line = input_line::begin();
+    let mut answer = [0u8; 40000];
+    let next = replay_lines::take_next(
+        going,
+        part,
+        stored,
+        memory,
+        assembly,
+        turn,
+        frame,
+        &mut answer,
+    );
+    let station = next.station;
+    let line = next.line;
+    let to = next.at;
+    let length = next.length;
+    if next.ended {
+        let on = write_answer(going, part, to, &answer[0..length]);
         return Going {
             station,
             line,
-            at: scanned.next,
-            on: answered.on,
+            at: to,
+            on,
         };
     }
     Going {
         station,
         line,
-        at: scanned.next,
+        at: to,
         on: true,
     }
 }
 
+// Takes a part to its end, or up to the first line whose answer cannot be written.
 fn replay_part(
     station: Station,
     line: Line,
@@ -92,7 +76,10 @@ fn replay_part(
     assembly: &mut [u8; 17408],
     turn: &mut [u8; 17408],
     frame: &mut [u8; 1088],
-) -> Going {
+) -> Going
+    ensures { λ r. ⌜ held (r .station) (r .line) (now (stored .exit)) (now (memory .exit)) (now (assembly .exit)) (now (turn .exit)) (now (frame .exit)) ≡ after (held station line (now (stored .entry)) (now (memory .entry)) (now (assembly .entry)) (now (turn .entry)) (now (frame .entry))) (take (r .at) (now (part .entry))) ⌝ }
+    ensures { λ r. ⌜ Taken (now (part .entry)) (r .at) (r .on) ⌝ }
+{
     let mut going = Going {
         station,
         line,
@@ -109,46 +96,42 @@ fn replay_part(
 fn replay_some(
     station: Station,
     line: Line,
+    part: &mut [u8],
     stored: &mut [u8; 34823],
     memory: &mut [u8; 17408],
     assembly: &mut [u8; 17408],
     turn: &mut [u8; 17408],
     frame: &mut [u8; 1088],
-) -> Going {
-    let mut part = io::large_buffer();
-    let got = libc::read(STDIN_FILENO, &mut part);
-    if got < 0 {
-        os::fail(b"standard input");
-    }
-    if got <= 0 {
-        return Going {
-            station,
-            line,
-            at: 0,
-            on: false,
-        };
-    }
-    let n = io::count(got, &part);
-    replay_part(
+) -> Going
+    ensures { λ r. ⌜ held (r .station) (r .line) (now (stored .exit)) (now (memory .exit)) (now (assembly .exit)) (now (turn .exit)) (now (frame .exit)) ≡ after (held station line (now (stored .entry)) (now (memory .entry)) (now (assembly .entry)) (now (turn .entry)) (now (frame .entry))) (take (r .at) (now (part .exit))) ⌝ }
+    ensures { λ r. ⌜ Arrived (now (part .exit)) (r .at) (r .on) ⌝ }
+{
+    let read = feeding::read_some(part);
+    let mut going = replay_part(
         station,
         line,
-        &part[..n],
+        &part[0..read],
         stored,
         memory,
         assembly,
         turn,
         frame,
-    )
+    );
+    going.on = going.on & (0 < read);
+    going
 }
 
 // A proved loop has to end, and nothing says that the input does. So the loop counts its turns down, from a number that no run uses up.
 fn replay_all(
+    part: &mut [u8],
     stored: &mut [u8; 34823],
     memory: &mut [u8; 17408],
     assembly: &mut [u8; 17408],
     turn: &mut [u8; 17408],
     frame: &mut [u8; 1088],
-) -> Line {
+) -> Going
+    ensures { λ r. ⌜ ((input : List ℕ) × (held (r .station) (r .line) (now (stored .exit)) (now (memory .exit)) (now (assembly .exit)) (now (turn .exit)) (now (frame .exit)) ≡ after (held never fresh (now (stored .entry)) (now (memory .entry)) (now (assembly .entry)) (now (turn .entry)) (now (frame .entry))) input)) ⌝ }
+{
     let mut going = Going {
         station: states::never(),
         line: input_line::begin(),
@@ -159,27 +142,43 @@ fn replay_all(
     while going.on && 0 < turns {
         let station = going.station;
         let line = going.line;
-        going = replay_some(station, line, stored, memory, assembly, turn, frame);
+        going = replay_some(station, line, part, stored, memory, assembly, turn, frame);
         turns -= 1;
     }
-    going.line
+    going
 }
 
-// The whole input. A last line without its line feed is no command.
-pub fn run() {
+// What the whole input leaves, with a station that was never started and buffers of zeros.
+fn replay_input() -> Going
+    ensures { λ r. ⌜ ((input : List ℕ) × ((r .station ≡ after start input .kept .station) × (r .line ≡ after start input .line))) ⌝ }
+{
+    let mut part = io::large_buffer();
     let mut stored = [0u8; 34823];
     let mut memory = [0u8; 17408];
     let mut assembly = [0u8; 17408];
     let mut turn = [0u8; 17408];
     let mut frame = [0u8; 1088];
-    let rest = replay_all(
+    replay_all(
+        &mut part,
         &mut stored,
         &mut memory,
         &mut assembly,
         &mut turn,
         &mut frame,
-    );
-    if 0 < rest.count {
-        io::write_all(STDOUT_FILENO, b"bad\n");
-    }
+    )
+}
+
+// The same for a last line without its line feed.
+fn write_rest(line: Line, text: &[u8])
+    requires { ⌜ now text ≡ answerToRest line ⌝ }
+{
+    io::write_all(STDOUT_FILENO, text);
+}
+
+pub fn run() {
+    let going = replay_input();
+    let rest = going.line;
+    let mut text = [0u8; 40];
+    let end = replay_lines::put_rest(rest, &mut text);
+    write_rest(rest, &text[0..end]);
 }
