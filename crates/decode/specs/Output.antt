@@ -3,12 +3,12 @@
 use mathlib.Core.Path.{_≡_, refl, ap, ap₂, sym, _∙_}
 use mathlib.Core.Bool.{Bool, cond}
 use mathlib.Core.List.{List, [], _∷_, _++_}
-use Prim.Native.Nat.{ℕ, _≤_}
+use Prim.Native.Nat.{ℕ}
 use native.Mathlib.Omega.{arith}
 use lib.ListN.{length, replicate, length-set}
 use Rattle.answering.specs.Answers.{textOf}
 use Rattle.decoding.specs.Begun.{begun-line}
-use Rattle.decoding.specs.Gathering.{fresh, pushed, bufferBy, bufferAfter, answered, begun}
+use Rattle.decoding.specs.Gathering.{fresh, pushed, bufferBy, bufferAfter, answered}
 use Rattle.decoding.specs.Heard.{line-heard}
 use Rattle.decoding.specs.Hexadecimal.{digitOf}
 use Rattle.decoding.specs.Line.{lineAnswer, pushedAll, bufferAll}
@@ -20,7 +20,7 @@ use Rattle.decoding.specs.declared.Hexadecimal.the-variants.{Digit, Other}
 use Rattle.decoding.specs.declared.Pending.{Pending}
 use Rattle.decoding.specs.declared.Pending.the-variants.{Nothing, Half, Bad}
 use Rattle.feeding.specs.Feeding as feeding
-use Rattle.feeding.specs.Lines.{Text, parted, Meaning, repliesTo, Meant, Came, text-came}
+use Rattle.feeding.specs.Lines.{parted, Meaning, repliesTo, Meant, text-came}
 use Rattle.decode.specs.Capture.{Carried, carried, decode, answerToRest, outputOf}
 use Rattle.decode.specs.Scanned.{pushed-both}
 

@@ -1,19 +1,17 @@
 -- A scan of a part of the capture takes it octet by octet. Assumes nothing.
-use mathlib.Core.Path.{_≡_, refl, ap, ap₂, sym, _∙_}
-use mathlib.Core.Bool.{Bool, true, false}
-use mathlib.Core.List.{List, [], _∷_, _++_}
+use mathlib.Core.Path.{_≡_, refl}
+use mathlib.Core.List.{List, [], _∷_}
 use Prim.Native.Nat.{ℕ}
-use lib.ListN.{length, drop}
-use Rattle.text.specs.Lines.{lineFeed}
+use lib.ListN.{drop}
 use Rattle.decoding.specs.Gathering.{pushed, bufferAfter, scanned, bufferScanned}
 use Rattle.decoding.specs.Line.{pushedAll, bufferAll}
-use Rattle.decoding.specs.Scans.{NoFeed, scan-part, buffer-part, scan-line, buffer-line}
+use Rattle.decoding.specs.Scans.{scan-part, buffer-part, scan-line, buffer-line}
 use Rattle.decoding.specs.declared.Gathered.{Gathered}
 use Rattle.decoding.specs.declared.Scanned.{Scanned}
 use Rattle.feeding.specs.Feeding as feeding
 use Rattle.feeding.specs.Cut.{Cut, feed, clean, cut}
 use Rattle.feeding.specs.Scan.{Scan, scan-feed, scan-clean}
-use Rattle.decode.specs.Capture.{Carried, carried, decode}
+use Rattle.decode.specs.Capture.{carried, decode}
 
 -- the line and the buffer are pushed octet by octet
 pub pushed-both : (room : ℕ) (octets : List ℕ) (line : Gathered) (frame : List ℕ) →

@@ -64,7 +64,7 @@ fn write_answer(line: Gathered, part: &[u8], from: usize, to: usize, text: &[u8]
     io::write_all(STDOUT_FILENO, text)
 }
 
-// The same, with the answer written.
+// Takes the part on by one step of `take_next`, and writes the answer.
 fn decode_next(line: Gathered, part: &[u8], at: usize, frame: &mut [u8]) -> Going
     requires { ⌜ at < length (now part) ⌝ }
     ensures { λ r. ⌜ carried (r .line) (now (frame .exit)) ≡ after line (now (frame .entry)) (between at (r .at) (now (part .entry))) ⌝ }
@@ -90,6 +90,7 @@ fn decode_next(line: Gathered, part: &[u8], at: usize, frame: &mut [u8]) -> Goin
     }
 }
 
+// Takes a part to its end, or up to the first line whose answer cannot be written.
 fn decode_part(line: Gathered, part: &[u8], frame: &mut [u8]) -> Going
     ensures { λ r. ⌜ carried (r .line) (now (frame .exit)) ≡ after line (now (frame .entry)) (take (r .at) (now (part .entry))) ⌝ }
     ensures { λ r. ⌜ Taken (now (part .entry)) (r .at) (r .on) ⌝ }

@@ -3,7 +3,6 @@ use mathlib.Core.Path.{_≡_, refl, ap, sym, _∙_}
 use mathlib.Core.Bool.{Bool, cond}
 use mathlib.Core.List.{List, [], _∷_, _++_, append-assoc}
 use Prim.Native.Nat.{ℕ}
-use lib.Dec.{eqb}
 use Rattle.text.specs.Lines.{lineFeed}
 use Rattle.decoding.specs.Scans.{NoFeed}
 use Rattle.feeding.specs.Feeding.{Program, fed, answered, fedAll, answeredAll, pushedAll}

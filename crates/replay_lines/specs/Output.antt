@@ -1,6 +1,6 @@
 -- What an input does: each of its lines does what the whole line means, in their order, and a last line without its line feed is `bad` and
 -- does nothing. Assumes nothing.
-use mathlib.Core.Path.{_≡_, refl, ap, ap₂, sym, _∙_}
+use mathlib.Core.Path.{_≡_, refl, ap, ap₂, _∙_}
 use mathlib.Core.Bool.{Bool, true, false, cond, not, _&&_}
 use mathlib.Core.List.{List, [], _∷_, _++_}
 use Prim.Native.Nat.{ℕ, _+_, _<_}
@@ -8,11 +8,11 @@ use native.Mathlib.Omega.{arith}
 use lib.Dec.{leb, ltb}
 use lib.ListN.{length, set, length-set}
 use borrow.Author.Tests.{lt-ltb}
-use Rattle.commands.specs.Commands.{commandIn, commandOf}
+use Rattle.commands.specs.Commands.{commandOf}
 use Rattle.decoding.specs.Scans.{NoFeed}
 use Rattle.feeding.specs.Feeding as feeding
-use Rattle.feeding.specs.Lines.{Text, parted, Meaning, afterAll, repliesTo, Meant, Came, text-came}
-use Rattle.input_line.specs.Gathering.{longest, fresh, countAfter, pushed, pushedAll, bufferAll}
+use Rattle.feeding.specs.Lines.{parted, Meaning, afterAll, repliesTo, Meant, Came, text-came}
+use Rattle.input_line.specs.Gathering.{longest, fresh, pushed, pushedAll, bufferAll}
 use Rattle.input_line.specs.declared.Line.{Line}
 use Rattle.replaying.specs.Lines.{line-performed}
 use Rattle.replaying.specs.Replaying.{Kept, Performed, performed}

@@ -1,8 +1,8 @@
 -- A scan of a part of the input takes it octet by octet. Assumes nothing.
-use mathlib.Core.Path.{_≡_, refl, ap, sym, _∙_}
-use mathlib.Core.List.{List, [], _∷_, _++_}
+use mathlib.Core.Path.{_≡_, refl}
+use mathlib.Core.List.{List, [], _∷_}
 use Prim.Native.Nat.{ℕ}
-use lib.ListN.{length, drop, set}
+use lib.ListN.{drop, set}
 use Rattle.feeding.specs.Feeding as feeding
 use Rattle.feeding.specs.Cut.{Cut, feed, clean, cut}
 use Rattle.feeding.specs.Scan.{Scan, scan-feed, scan-clean}

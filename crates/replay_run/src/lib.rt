@@ -20,7 +20,7 @@ fn write_answer(going: Going, part: &[u8], to: usize, text: &[u8]) -> bool
     io::write_all(STDOUT_FILENO, text)
 }
 
-// Takes the part from a place on, up to its next line feed or its end, and answers a line that has ended.
+// Takes the part on by one step of `take_next`, and writes the answer.
 fn replay_next(
     going: Going,
     part: &[u8],
@@ -66,6 +66,7 @@ fn replay_next(
     }
 }
 
+// Takes a part to its end, or up to the first line whose answer cannot be written.
 fn replay_part(
     station: Station,
     line: Line,
@@ -148,8 +149,8 @@ fn replay_all(
 }
 
 // What the whole input leaves, with a station that was never started and buffers of zeros.
-fn replay_input() -> Line
-    ensures { λ r. ⌜ ((input : List ℕ) × (r ≡ after start input .line)) ⌝ }
+fn replay_input() -> Going
+    ensures { λ r. ⌜ ((input : List ℕ) × ((r .station ≡ after start input .kept .station) × (r .line ≡ after start input .line))) ⌝ }
 {
     let mut part = io::large_buffer();
     let mut stored = [0u8; 34823];
@@ -157,15 +158,14 @@ fn replay_input() -> Line
     let mut assembly = [0u8; 17408];
     let mut turn = [0u8; 17408];
     let mut frame = [0u8; 1088];
-    let going = replay_all(
+    replay_all(
         &mut part,
         &mut stored,
         &mut memory,
         &mut assembly,
         &mut turn,
         &mut frame,
-    );
-    going.line
+    )
 }
 
 // The same for a last line without its line feed.
@@ -176,7 +176,8 @@ fn write_rest(line: Line, text: &[u8])
 }
 
 pub fn run() {
-    let rest = replay_input();
+    let going = replay_input();
+    let rest = going.line;
     let mut text = [0u8; 40];
     let end = replay_lines::put_rest(rest, &mut text);
     write_rest(rest, &text[0..end]);

@@ -1,7 +1,5 @@
 -- `decode::decode_some` meets its contract.
 use mathlib.Core.Path.{ap, _∙_}
-use mathlib.Core.List.{List}
-use Prim.Native.Nat.{ℕ}
 use lib.ListN.{length}
 use Rattle.feeding.specs.Feeding.{fedAll}
 use Rattle.feeding.specs.Scan.{read-arrived, read-taken}

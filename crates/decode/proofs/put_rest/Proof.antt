@@ -1,7 +1,6 @@
 -- `decode::put_rest` meets its contract.
 use mathlib.Core.Path.{_≡_, refl, sym, _∙_}
 use mathlib.Core.Bool.{true, false}
-use mathlib.Core.List.{[]}
 use Rattle.copying.specs.Laws.{paste-nothing}
 use Rattle.decoding.specs.Gathering.{begun}
 use borrow.Author.Needs.{needs}

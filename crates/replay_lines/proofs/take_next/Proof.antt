@@ -10,7 +10,7 @@ use Rattle.input_line.specs.Gathering.{scanned, bufferScanned}
 use Rattle.input_line.specs.declared.Line.{Line}
 use Rattle.input_line.specs.declared.Scanned.{Scanned}
 use Rattle.replaying.specs.Replaying.{Kept, keeping}
-use Rattle.replay_lines.specs.Replay.{Carried, carried, replay, lineDone}
+use Rattle.replay_lines.specs.Replay.{carried, replay}
 use Rattle.replay_lines.specs.Scanned.{scan-taken}
 use borrow.Author.Needs.{needs}
 use Rattle.replay_lines.proofs.take_next.Statement.{statement}

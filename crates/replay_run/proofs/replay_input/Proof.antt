@@ -15,7 +15,9 @@ replay-all-requires : tie.Need-replay-all-requires
 replay-all-requires c κs = search needs
 
 returns : tie.Need-returns
-returns c = (c .before .before .replay-all .ensures .0, ap (λ (state : Carried). state .line) (c .before .before .replay-all .ensures .1))
+returns c =
+    let all = c .before .replay-all .ensures in
+    (all .0, (ap (λ (state : Carried). state .kept .station) (all .1), ap (λ (state : Carried). state .line) (all .1)))
 
 pub replay-input-spec : {M : Type 1} → statement M
 replay-input-spec =

@@ -21,12 +21,12 @@ part-write-rest-start c = search needs
 part-write-rest-end : tie.Need-part-write-rest-end
 part-write-rest-end c =
     let put = c .before .put-rest .ensures in
-    front-within (replicate 40 0) (answerToRest (c .before .before .before .replay-input .result)) (put .0) (put .1)
+    front-within (replicate 40 0) (answerToRest (c .before .before .before .before .replay-input .result .line)) (put .0) (put .1)
 
 write-rest-requires : tie.Need-write-rest-requires
 write-rest-requires c κs =
     let put = c .before .before .put-rest .ensures in
-    front-read (replicate 40 0) (answerToRest (c .before .before .before .before .replay-input .result)) (put .0) (put .1)
+    front-read (replicate 40 0) (answerToRest (c .before .before .before .before .before .replay-input .result .line)) (put .0) (put .1)
 
 returns : tie.Need-returns
 returns c = search needs
