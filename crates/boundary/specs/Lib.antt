@@ -1,3 +1,2 @@
--- The state as numbers, that nothing is lost by it, and a participant's calls on its core.
+-- The state as numbers, and that nothing is lost by it.
 pub mod Crossing
-pub mod Quick

@@ -1,6 +1,5 @@
-// The state as numbers, for C, and a participant's calls on its state without the list.
+// The state as numbers, for C.
 mod across;
-mod quick;
 
 pub use across::inner;
 pub use across::outer;
@@ -15,12 +14,6 @@ pub use answers::heard_answer;
 pub use answers::switched_answer;
 pub use answers::ticked_answer;
 use panel::Panel;
-pub use quick::hear_accepted;
-pub use quick::holds_block;
-pub use quick::is_accepted;
-pub use quick::is_quiet;
-pub use quick::quiet;
-pub use quick::sent_block;
 use station::Gathering;
 use station::Settings;
 use units::Ticks;

@@ -40,7 +40,7 @@ fn hear_frame(
     let sender = lists::is_listed(listed, source);
     let taker = lists::is_listed(listed, destination);
     let lent = (memory.len() == 17408) & (assembly.len() == 17408);
-    if boundary::is_accepted(core, sender, taker, frame) & lent {
+    if boundary_participant::is_accepted(core, sender, taker, frame) & lent {
         return in_place::hear(
             core,
             listed,
@@ -74,7 +74,7 @@ pub fn hear(
     ensures { λ _. ⌜ now (assembly .exit) ≡ hearOf (stationIn core (now (listed .entry)) (now (areas .entry)) (now (watch .entry)) (now (misses .entry))) (now (octets .entry)) (now (memory .entry)) (now (assembly .entry)) .assembly ⌝ }
     ensures { λ _. ⌜ membersIn (now (listed .exit)) (now (areas .exit)) (now (watch .exit)) (now (misses .exit)) ≡ hearOf (stationIn core (now (listed .entry)) (now (areas .entry)) (now (watch .entry)) (now (misses .entry))) (now (octets .entry)) (now (memory .entry)) (now (assembly .entry)) .station .members ⌝ }
 {
-    match reading::read_frame(octets) {
+    match reading_body::read_frame(octets) {
         Read::Frame(frame) => hear_frame(
             core,
             listed,
@@ -115,7 +115,7 @@ pub fn ask(
     ensures { λ _. ⌜ now (output .exit) ≡ askOf (stationIn core (now (listed .entry)) (now (areas .entry)) (now (watch .entry)) (now (misses .entry))) (now (memory .entry)) (now (turn .entry)) (now (output .entry)) .output ⌝ }
     ensures { λ _. ⌜ membersIn (now (listed .exit)) (now (areas .exit)) (now (watch .exit)) (now (misses .exit)) ≡ askOf (stationIn core (now (listed .entry)) (now (areas .entry)) (now (watch .entry)) (now (misses .entry))) (now (memory .entry)) (now (turn .entry)) (now (output .entry)) .station .members ⌝ }
 {
-    if boundary::holds_block(core) & placing::is_lent_right(memory, turn, output) {
+    if boundary_participant::holds_block(core) & placing::is_lent_right(memory, turn, output) {
         return in_place::ask(core, listed, areas, watch, misses, memory, turn, output);
     }
     whole::ask(core, listed, areas, watch, misses, memory, turn, output)

@@ -19,9 +19,9 @@ pub fn tick(
     ensures { λ r. ⌜ r .answer ≡ tickedAnswer (tickOf (stationIn core (now (listed .entry)) (now (areas .entry)) (now (watch .entry)) (now (misses .entry))) .answer) ⌝ }
     ensures { λ _. ⌜ membersIn (now (listed .exit)) (now (areas .exit)) (now (watch .exit)) (now (misses .exit)) ≡ tickOf (stationIn core (now (listed .entry)) (now (areas .entry)) (now (watch .entry)) (now (misses .entry))) .station .members ⌝ }
 {
-    if boundary::is_quiet(core) {
+    if boundary_participant::is_quiet(core) {
         return Outcome {
-            core: boundary::quiet(core),
+            core: boundary_participant::quiet(core),
             answer: boundary::done(),
         };
     }

@@ -148,9 +148,9 @@ fn hear(count: usize, buffer: &[u8]) -> Read
     ensures { λ r. ⌜ r ≡ readOf (take count (now (buffer .entry))) ⌝ }
 {
     if count < buffer.len() {
-        reading::read_frame(&buffer[0..count])
+        reading_body::read_frame(&buffer[0..count])
     } else {
-        reading::read_frame(buffer)
+        reading_body::read_frame(buffer)
     }
 }
 

@@ -29,6 +29,6 @@ pub fn gather_frame(
     ensures { λ _. ⌜ now (memory .exit) ≡ gatheredFrom before listed frame (dataOf (now (octets .entry)) frame) (now (assembly .entry)) (now (memory .entry)) .memory ⌝ }
     ensures { λ _. ⌜ now (assembly .exit) ≡ gatheredFrom before listed frame (dataOf (now (octets .entry)) frame) (now (assembly .entry)) (now (memory .entry)) .assembly ⌝ }
 {
-    let part = reading::data_of(octets, frame);
+    let part = reading_body::data_of(octets, frame);
     gathering::gather(before, listed, frame, part, assembly, memory)
 }

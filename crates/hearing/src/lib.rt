@@ -171,7 +171,7 @@ fn hear_header(
     if is_taken(station, frame) {
         return refused(after_taken(station), Refusal::Taken);
     }
-    match reading::read_body(octets.len(), frame) {
+    match reading_body::read_body(octets.len(), frame) {
         Read::Frame(body) => hear_body(station, body, octets, memory, assembly),
         Read::Refused(refusal) => refused(station, refusal),
     }

@@ -2,15 +2,15 @@
 use boundary::Core;
 use boundary::Outcome;
 use boundary::frame_answer;
-use boundary::hear_accepted;
-use boundary::sent_block;
+use boundary_heard::hear_accepted;
+use boundary_participant::sent_block;
 use frame::Fields;
 ghost use mathlib.Core.Path.{_≡_};
 ghost use mathlib.Core.Bool.{true, false};
 ghost use lib.ListN.{getD};
 ghost use Rattle.boundary.specs.Crossing.{coreOf, stationIn};
 ghost use Rattle.answers.specs.Numbers.{heardAnswer, askedAnswer};
-ghost use Rattle.boundary.specs.Quick.{isAccepted, holdsBlock};
+ghost use Rattle.boundary_participant.specs.Quick.{isAccepted, holdsBlock};
 ghost use Rattle.lists.specs.Lists.{membersIn};
 ghost use Rattle.reading.specs.Reading.{readOf};
 ghost use Rattle.reading.specs.declared.Read.the-variants as reads;

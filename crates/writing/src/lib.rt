@@ -22,7 +22,7 @@ pub enum Written {
 pub fn whole_length(fields: Fields) -> usize
     ensures { λ r. ⌜ r ≡ wholeLength fields ⌝ }
 {
-    64 + reading::data_size(fields)
+    64 + reading_body::data_size(fields)
 }
 
 // The fields of a cyclic frame: all as they are but TFL.
@@ -185,7 +185,7 @@ pub fn write_frame(fields: Fields, block: &[u8], output: &mut [u8]) -> Written
     ensures { λ r. ⌜ r ≡ writtenOf fields (now (block .entry)) (now (output .entry)) ⌝ }
     ensures { λ _. ⌜ now (output .exit) ≡ outputOf fields (now (block .entry)) (now (output .entry)) ⌝ }
 {
-    let size = reading::data_size(fields);
+    let size = reading_body::data_size(fields);
     let whole = whole_length(fields);
     if block.len() < size {
         return Written::Refused(Refusal::Buffer);

@@ -4,7 +4,7 @@ use Rattle.station.specs.Asking.{Asking}
 use mathlib.Core.Path.{sym, _∙_}
 use Rattle.laws.specs.Tests.{first, second}
 use Rattle.lists.specs.Lists.{membersIn}
-use Rattle.boundary.specs.Quick.{held-asked}
+use Rattle.boundary_participant.specs.Quick.{held-asked}
 use borrow.Author.Needs.{needs}
 use Rattle.calls.proofs.ask.Statement.{statement}
 use Rattle.calls.proofs.ask.Tie as tie

@@ -3,7 +3,7 @@ use Rattle.answers.specs.Numbers.{tickedAnswer}
 use Rattle.station.specs.Ticking.{Ticking}
 use mathlib.Core.Path.{ap, sym, _∙_}
 use Rattle.lists.specs.Lists.{membersIn}
-use Rattle.boundary.specs.Quick.{quiet-tick, quiet-core}
+use Rattle.boundary_participant.specs.Quick.{quiet-tick, quiet-core}
 use Rattle.waiting.specs.Ticks.{counts, stays-off}
 use borrow.Author.Needs.{needs}
 use Rattle.counting.proofs.tick.Statement.{statement}

@@ -1,5 +1,5 @@
 -- `in_place::ask` meets its contract.
-use Rattle.boundary.specs.Quick.{sentCore}
+use Rattle.boundary_participant.specs.Quick.{sentCore}
 use Rattle.answers.specs.Numbers.{frameAnswer, askedAnswer}
 use Rattle.boundary.specs.Crossing.{coreOf}
 use Rattle.writing.specs.Writing.{wholeLength, outputOf}
@@ -16,7 +16,7 @@ use borrow.Author.Tests.{eqb-true, leb-true}
 use Rattle.laws.specs.Tests.{first, second}
 use Rattle.lists.specs.Laws.{next-in}
 use Rattle.lists.specs.Lists.{membersIn}
-use Rattle.boundary.specs.Quick.{held-placed, held-asked}
+use Rattle.boundary_participant.specs.Quick.{held-placed, held-asked}
 use borrow.Author.Needs.{needs}
 use Rattle.in_place.proofs.ask.Statement.{statement}
 use Rattle.in_place.proofs.ask.Tie as tie

@@ -19,7 +19,7 @@ use Rattle.station.specs.Hearing.{Hearing}
 use Rattle.station.specs.Token.{viewHeard}
 use Rattle.boundary.specs.Crossing.{coreOf}
 use Rattle.answers.specs.Numbers.{cyclicAnswer, heardAnswer}
-use Rattle.boundary.specs.Quick.{restartedCore, accepted-parts, whole-body, accepted-heard}
+use Rattle.boundary_participant.specs.Quick.{restartedCore, accepted-parts, whole-body, accepted-heard}
 use Rattle.in_place.proofs.hear.Statement.{statement}
 use Rattle.in_place.proofs.hear.Tie as tie
 

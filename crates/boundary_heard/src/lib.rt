@@ -1,0 +1,66 @@
+// An accepted cyclic frame heard by a participant, on its core alone.
+use answers::cyclic;
+use area::Areas;
+use boundary::Core;
+use boundary::Outcome;
+use frame::Fields;
+use station::Gathering;
+use units::Ticks;
+ghost use mathlib.Core.Path.{_≡_};
+ghost use mathlib.Core.Bool.{true};
+ghost use lib.ListN.{length};
+ghost use Rattle.frame.specs.Codes.{isCyclic};
+ghost use Rattle.token.specs.Parts.{outcomeBy};
+ghost use Rattle.answers.specs.Numbers.{cyclicAnswer};
+ghost use Rattle.boundary_participant.specs.Quick.{restartedCore};
+ghost use Rattle.reading.specs.Reading.{readBodyOf, dataOf};
+ghost use Rattle.reading.specs.declared.Read.the-variants as reads;
+ghost use Rattle.station.specs.Data.{gatheredFrom};
+ghost use Rattle.station.specs.Hearing.{lentRight};
+ghost use Rattle.station.specs.Token.{viewHeard};
+
+fn restart(core: Core, view: u8, gathering: Gathering) -> Core
+    ensures { λ r. ⌜ r ≡ restartedCore core view gathering ⌝ }
+{
+    let number = core.own.number;
+    let counter = core.panel;
+    let block = states::place_kept(view, number, core.block);
+    let panel = states::taken_if(states::takes(number, core.view, view), counter);
+    Core {
+        phase: 4,
+        elapsed: Ticks(0),
+        view,
+        block,
+        gathering,
+        panel,
+        ..core
+    }
+}
+
+// Hears an accepted frame, whose source is listed with these areas. Its misses are cleared apart.
+pub fn hear_accepted(
+    core: Core,
+    listed: Areas,
+    frame: Fields,
+    octets: &[u8],
+    memory: &mut [u8],
+    assembly: &mut [u8],
+) -> Outcome
+    requires { ⌜ lentRight (now memory) (now assembly) ≡ true ⌝ }
+    requires { ⌜ readBodyOf (length (now octets)) frame ≡ reads.Frame frame ⌝ }
+    requires { ⌜ isCyclic (frame .code) ≡ true ⌝ }
+    ensures { λ r. ⌜ r .core ≡ restartedCore core (viewHeard (core .view) frame) (gatheredFrom (core .gathering) listed frame (dataOf (now (octets .entry)) frame) (now (assembly .entry)) (now (memory .entry)) .gathering) ⌝ }
+    ensures { λ r. ⌜ r .answer ≡ cyclicAnswer (outcomeBy (core .own .number) (core .view) frame (gatheredFrom (core .gathering) listed frame (dataOf (now (octets .entry)) frame) (now (assembly .entry)) (now (memory .entry)) .outcome)) ⌝ }
+    ensures { λ _. ⌜ now (memory .exit) ≡ gatheredFrom (core .gathering) listed frame (dataOf (now (octets .entry)) frame) (now (assembly .entry)) (now (memory .entry)) .memory ⌝ }
+    ensures { λ _. ⌜ now (assembly .exit) ≡ gatheredFrom (core .gathering) listed frame (dataOf (now (octets .entry)) frame) (now (assembly .entry)) (now (memory .entry)) .assembly ⌝ }
+{
+    let before = core.gathering;
+    let number = core.own.number;
+    let stored = heard_data::gather_frame(before, listed, frame, octets, memory, assembly);
+    let after = stored.gathering;
+    let outcome = stored.outcome;
+    let answer = cyclic(token::outcome_of(number, core.view, frame, outcome));
+    let view = token::view_heard(core.view, frame);
+    let core = restart(core, view, after);
+    Outcome { core, answer }
+}

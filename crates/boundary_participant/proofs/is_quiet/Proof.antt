@@ -1,0 +1,13 @@
+-- `boundary_participant::is_quiet` meets its contract.
+use borrow.Author.Needs.{needs}
+use Rattle.boundary_participant.proofs.is_quiet.Statement.{statement}
+use Rattle.boundary_participant.proofs.is_quiet.Tie as tie
+
+watch-ends-requires : tie.Need-watch-ends-requires
+watch-ends-requires c κs = search needs
+
+returns : tie.Need-returns
+returns c = rw (c .watch-ends .ensures)
+
+pub is-quiet-spec : {M : Type 1} → statement M
+is-quiet-spec = tie.close (tie.spec watch-ends-requires returns)

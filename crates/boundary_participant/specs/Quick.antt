@@ -1,0 +1,188 @@
+-- A participant's calls on its core, where the list is left as it is but for one station's misses; and that they are the calls of its station.
+-- A core's phase is a number, and 4 is that of participating.
+use Prim.Native.Nat.{ℕ, _+_}
+use mathlib.Core.Bool.{Bool, true, false, cond, not, _&&_, _||_}
+use mathlib.Core.List.{List}
+use mathlib.Core.Path.{_≡_, ap, _∙_}
+use lib.Dec.{eqb, leb}
+use lib.ListN.{length, drop}
+use native.Mathlib.Omega.{arith}
+use borrow.Author.Tests.{eqb-true, not-true}
+use Rattle.station.specs.Asking.{placedIn, lastIn, nextFields, turnFor}
+use Rattle.block.specs.Blocks.{startOf}
+use Rattle.frame.specs.Codes.{isToken, isCyclic}
+use Rattle.frame.specs.declared.Fields.{Fields}
+use Rattle.heard_data.specs.Body.{body-same, body-read}
+use Rattle.laws.specs.Tests.{first, second}
+use Rattle.members.specs.Members.{isListed, nextAfter}
+use Rattle.members.specs.declared.Members.{Members}
+use Rattle.panel.specs.Panel.{ticked, taken}
+use Rattle.reading.specs.Reading.{andThen, readOf, readHeaderOf, readBodyOf, dataOf}
+use Rattle.reading.specs.declared.Read.{Read}
+use Rattle.reading.specs.declared.Read.the-variants as reads
+use Rattle.station.specs.Asking as asks
+use Rattle.station.specs.Data.{gathered}
+use Rattle.station.specs.Hearing.{Hearing, hearOf, headerHeard, participantHeard, lentRight}
+use Rattle.station.specs.State.{noTicks}
+use Rattle.station.specs.Ticking.{tickOf, later}
+use Rattle.station.specs.Token.{takes}
+use Rattle.station.specs.Waits.{watchTicks, longestWatch}
+use Rattle.station.specs.declared.Asked.the-variants.{Octets}
+use Rattle.station.specs.declared.Gathering.{Gathering}
+use Rattle.station.specs.declared.Ticked.the-variants.{Done}
+use Rattle.writing.specs.Writing.{wholeLength, outputOf}
+use Rattle.boundary.specs.Crossing.{stationOf, coreOf}
+use Rattle.boundary.specs.declared.Core.{Core}
+
+-- a participant whose next tick does not end its watch
+abbrev pub isQuiet : Core → Bool
+isQuiet core = eqb (core .phase) 4 && not (leb (watchTicks (core .own .watch)) (core .elapsed .0 + 1))
+
+-- its tick
+abbrev pub quietAfter : Core → Core
+quietAfter core = record {
+  phase = core .phase;
+  own = core .own;
+  elapsed = later longestWatch (core .elapsed);
+  waited = core .waited;
+  rounds = core .rounds;
+  sent = core .sent;
+  view = core .view;
+  block = core .block;
+  gathering = core .gathering;
+  panel = ticked (core .panel);
+}
+
+pub quiet-tick : (core : Core) (members : Members) → isQuiet core ≡ true → tickOf (stationOf core members) ≡ record { station = stationOf (quietAfter core) members; answer = Done }
+quiet-tick core members quiet =
+    let four : core .phase ≡ 4 = eqb-true (core .phase) 4 (first (eqb (core .phase) 4) (not (leb (watchTicks (core .own .watch)) (core .elapsed .0 + 1))) quiet) in
+    let runs : leb (watchTicks (core .own .watch)) (core .elapsed .0 + 1) ≡ false =
+    not-true (leb (watchTicks (core .own .watch)) (core .elapsed .0 + 1)) (second (eqb (core .phase) 4) (not (leb (watchTicks (core .own .watch)) (core .elapsed .0 + 1))) quiet) in
+    rw (four, runs)
+
+pub quiet-core : (core : Core) (members : Members) → isQuiet core ≡ true → coreOf (tickOf (stationOf core members) .station) ≡ quietAfter core
+quiet-core core members quiet =
+    let four : core .phase ≡ 4 = eqb-true (core .phase) 4 (first (eqb (core .phase) 4) (not (leb (watchTicks (core .own .watch)) (core .elapsed .0 + 1))) quiet) in
+    ap (λ t. coreOf (t .station)) (quiet-tick core members quiet) ∙ rw four
+
+-- a participant whose watch restarts, with another view and gathering
+abbrev pub restartedCore : Core → ℕ → Gathering → Core
+restartedCore core view gathering = record {
+  phase = 4;
+  own = core .own;
+  elapsed = noTicks;
+  waited = core .waited;
+  rounds = core .rounds;
+  sent = core .sent;
+  view = view;
+  block = cond (eqb view (core .own .number)) (core .block) 0;
+  gathering = gathering;
+  panel = cond (takes (core .own .number) (core .view) view) (taken (core .panel)) (core .panel);
+}
+
+-- whether a participant accepts a cyclic frame that was read: neither number 6 nor number 9 applies
+abbrev pub isAccepted : Core → Bool → Bool → Fields → Bool
+isAccepted core source destination frame =
+    (eqb (core .phase) 4 && isCyclic (frame .code))
+    && ((not (eqb (frame .source) (core .own .number)) && source)
+    && (not (isToken (frame .code)) || (eqb (frame .destination) (core .own .number) || destination)))
+
+-- what an accepted frame is known to be
+module _ (core : Core) (source destination : Bool) (frame : Fields) where
+  pub record Accepted : Type 0 where
+    pub four : core .phase ≡ 4
+    pub cyclic : isCyclic (frame .code) ≡ true
+    pub other : eqb (frame .source) (core .own .number) ≡ false
+    pub listed : source ≡ true
+    pub known : (not (isToken (frame .code)) || (eqb (frame .destination) (core .own .number) || destination)) ≡ true
+
+  abbrev ours : Bool
+  ours = eqb (frame .source) (core .own .number)
+
+  abbrev reached : Bool
+  reached = not (isToken (frame .code)) || (eqb (frame .destination) (core .own .number) || destination)
+
+  pub accepted-parts : isAccepted core source destination frame ≡ true → Accepted
+  accepted-parts e =
+      let participates = first (eqb (core .phase) 4 && isCyclic (frame .code)) ((not ours && source) && reached) e in
+      let heard = second (eqb (core .phase) 4 && isCyclic (frame .code)) ((not ours && source) && reached) e in
+      let from = first (not ours && source) reached heard in
+      record {
+        four = eqb-true (core .phase) 4 (first (eqb (core .phase) 4) (isCyclic (frame .code)) participates);
+        cyclic = second (eqb (core .phase) 4) (isCyclic (frame .code)) participates;
+        other = not-true ours (first (not ours) source from);
+        listed = second (not ours) source from;
+        known = second (not ours && source) reached heard;
+      }
+
+-- its body was read as it stands
+header-body : (octets : List ℕ) (frame : Fields) (read : Read) → andThen read (readBodyOf (length octets)) ≡ reads.Frame frame
+    → readBodyOf (length octets) frame ≡ reads.Frame frame
+header-body octets frame (reads.Refused refusal) e = let z : _≡_ {A = ℕ} 0 1 = cc in absurd (omega arith)
+header-body octets frame (reads.Frame header) e = body-read (length octets) header frame e
+
+pub whole-body : (octets : List ℕ) (frame : Fields) → readOf octets ≡ reads.Frame frame → readBodyOf (length octets) frame ≡ reads.Frame frame
+unfolding readOf
+whole-body octets frame e = header-body octets frame (readHeaderOf octets) e
+
+-- a participant that holds, with a block of its turn to send
+abbrev pub holdsBlock : Core → Bool
+holdsBlock core = eqb (core .phase) 4 && (eqb (core .view) (core .own .number) && placedIn (core .own .areas) (core .block))
+
+pub held-placed : (core : Core) → holdsBlock core ≡ true → placedIn (core .own .areas) (core .block) ≡ true
+held-placed core e =
+    let held = eqb (core .view) (core .own .number) in
+    let placed = placedIn (core .own .areas) (core .block) in
+    second held placed (second (eqb (core .phase) 4) (held && placed) e)
+
+-- it after the block is sent, with the number that is next after ours
+abbrev pub sentCore : Core → ℕ → Core
+sentCore core next = record {
+  phase = 4;
+  own = core .own;
+  elapsed = noTicks;
+  waited = core .waited;
+  rounds = core .rounds;
+  sent = core .sent;
+  view = cond (lastIn (core .own .areas) (core .block)) next (core .view);
+  block = cond (lastIn (core .own .areas) (core .block)) 0 (core .block + 1);
+  gathering = core .gathering;
+  panel = cond (lastIn (core .own .areas) (core .block) && eqb next (core .own .number)) (taken (core .panel)) (core .panel);
+}
+
+-- a participant that holds is asked as the rules say
+pub held-asked : (core : Core) (members : Members) (memory turn output : List ℕ) → holdsBlock core ≡ true → asks.lentRight memory turn output ≡ true
+    → asks.askOf (stationOf core members) memory turn output
+    ≡ record {
+      station = stationOf (sentCore core (nextAfter (core .own .number) members (core .own .number))) members;
+      answer = Octets (wholeLength (nextFields (core .own) (core .block) (nextAfter (core .own .number) members (core .own .number))));
+      turn = turnFor (core .own .areas) (core .block) memory turn;
+      output =
+          outputOf (nextFields (core .own) (core .block) (nextAfter (core .own .number) members (core .own .number)))
+          (drop (startOf (core .block + 1)) (turnFor (core .own .areas) (core .block) memory turn))
+          output;
+    }
+held-asked core members memory turn output holds lent =
+    let four = eqb-true (core .phase) 4 (first (eqb (core .phase) 4) (eqb (core .view) (core .own .number) && placedIn (core .own .areas) (core .block)) holds) in
+    let due = second (eqb (core .phase) 4) (eqb (core .view) (core .own .number) && placedIn (core .own .areas) (core .block)) holds in
+    rw (lent, four, due)
+
+module _
+    (core : Core) (members : Members) (octets memory assembly : List ℕ) (frame : Fields)
+    (four : core .phase ≡ 4)
+    (cyclic : isCyclic (frame .code) ≡ true)
+    (other : eqb (frame .source) (core .own .number) ≡ false)
+    (listed : isListed members (frame .source) ≡ true)
+    (known : (not (isToken (frame .code)) || (eqb (frame .destination) (core .own .number) || isListed members (frame .destination))) ≡ true)
+  where
+    abbrev taken-in : Hearing
+    taken-in = participantHeard (stationOf core members) frame (gathered (stationOf core members) frame (dataOf octets frame) assembly memory)
+
+    header-heard : (read : Read) → andThen read (readBodyOf (length octets)) ≡ reads.Frame frame → headerHeard (stationOf core members) octets memory assembly read ≡ taken-in
+    header-heard (reads.Refused refusal) e = let z : _≡_ {A = ℕ} 0 1 = cc in absurd (omega arith)
+    header-heard (reads.Frame header) e = rw (four, e, body-same (length octets) header frame e, other, listed, known, cyclic)
+
+    -- a participant hears an accepted frame as the rules say
+    pub accepted-heard : lentRight memory assembly ≡ true → readOf octets ≡ reads.Frame frame → hearOf (stationOf core members) octets memory assembly ≡ taken-in
+    unfolding readOf
+    accepted-heard lent read = rw lent (header-heard (readHeaderOf octets) read)

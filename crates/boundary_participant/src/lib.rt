@@ -1,0 +1,67 @@
+// A participant's tick, the test of a frame heard and its block sent, on its core alone.
+use boundary::Core;
+use frame::Fields;
+use units::Ticks;
+ghost use mathlib.Core.Path.{_≡_};
+ghost use mathlib.Core.Bool.{true};
+ghost use Rattle.boundary_participant.specs.Quick.{isQuiet, quietAfter, isAccepted, holdsBlock, sentCore};
+
+pub fn is_quiet(core: Core) -> bool
+    ensures { λ r. ⌜ r ≡ isQuiet core ⌝ }
+{
+    let watch = core.own.watch;
+    let elapsed = core.elapsed;
+    (core.phase == 4) & !waits::watch_ends(watch, elapsed)
+}
+
+pub fn quiet(core: Core) -> Core
+    ensures { λ r. ⌜ r ≡ quietAfter core ⌝ }
+{
+    let before = core.elapsed;
+    let counter = core.panel;
+    let elapsed = waits::later(waits::longest_watch(), before);
+    let panel = panel::tick(counter);
+    Core {
+        elapsed,
+        panel,
+        ..core
+    }
+}
+
+// Whether a participant accepts a cyclic frame that was read, by whether its source and its destination are listed.
+pub fn is_accepted(core: Core, source: bool, destination: bool, frame: Fields) -> bool
+    ensures { λ r. ⌜ r ≡ isAccepted core source destination frame ⌝ }
+{
+    let code = frame.code;
+    let number = core.own.number;
+    let cyclic = (core.phase == 4) & frame::is_cyclic(code);
+    let other = (frame.source != number) & source;
+    let known = !frame::is_token(code) | ((frame.destination == number) | destination);
+    cyclic & (other & known)
+}
+
+pub fn holds_block(core: Core) -> bool
+    ensures { λ r. ⌜ r ≡ holdsBlock core ⌝ }
+{
+    let own = core.own;
+    (core.phase == 4) & ((core.view == own.number) & placing::is_placed(own, core.block))
+}
+
+// The core after a block is sent, where `next` is the number next after ours.
+pub fn sent_block(core: Core, next: u8) -> Core
+    requires { ⌜ holdsBlock core ≡ true ⌝ }
+    ensures { λ r. ⌜ r ≡ sentCore core next ⌝ }
+{
+    let own = core.own;
+    let counter = core.panel;
+    let after = placing::after_block(own, core.view, core.block, counter, next);
+    let panel = after.panel;
+    Core {
+        phase: 4,
+        elapsed: Ticks(0),
+        view: after.view,
+        block: after.block,
+        panel,
+        ..core
+    }
+}
