@@ -27,6 +27,9 @@ pub struct Areas {
     pub two: Part,
 }
 
+// "Common memory is 17,408 octets, area 1 first."
+pub const MEMORY_OCTETS: usize = 17408;
+
 // A run of octets of the common memory.
 pub struct Span {
     pub start: usize,

@@ -4,6 +4,9 @@ ghost use mathlib.Core.Path.{_≡_};
 ghost use Prim.Native.Nat.{_-_, min};
 ghost use Rattle.block.specs.Blocks.{octetsOf, blocksOf, startOf, lengthOf};
 
+// "cut into blocks of 1024, the last one shorter or equal"
+pub const BLOCK_OCTETS: usize = 1024;
+
 fn least(a: usize, b: usize) -> usize
     ensures { λ r. ⌜ r ≡ min a b ⌝ }
 {
@@ -32,7 +35,7 @@ pub fn blocks(areas: Areas) -> usize
     if octets == 0 {
         1
     } else {
-        (octets + 1023) / 1024
+        (octets + (BLOCK_OCTETS - 1)) / BLOCK_OCTETS
     }
 }
 
@@ -40,13 +43,13 @@ pub fn blocks(areas: Areas) -> usize
 pub fn block_start(block: u8) -> usize
     ensures { λ r. ⌜ r ≡ startOf block ⌝ }
 {
-    1024 * less(block as usize, 1)
+    BLOCK_OCTETS * less(block as usize, 1)
 }
 
 pub fn block_length(areas: Areas, block: u8) -> usize
     ensures { λ r. ⌜ r ≡ lengthOf areas block ⌝ }
 {
     let number = block as usize;
-    let end = least(1024 * number, turn_octets(areas));
+    let end = least(BLOCK_OCTETS * number, turn_octets(areas));
     less(end, block_start(block))
 }

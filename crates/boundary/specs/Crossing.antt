@@ -21,7 +21,14 @@ use Rattle.boundary.specs.declared.Core.{Core}
 -- A number that is no phase's counts as off.
 abbrev pub phaseOf : ℕ → Phase
 phaseOf number =
-    cond (eqb number 1) Listening (cond (eqb number 2) Startup (cond (eqb number 3) Joining (cond (eqb number 4) Participating Off)))
+    cond (eqb number (phaseNumber Listening)) Listening
+    (cond (eqb number (phaseNumber Startup)) Startup
+    (cond (eqb number (phaseNumber Joining)) Joining
+    (cond (eqb number (phaseNumber Participating)) Participating Off)))
+
+-- whether a core is in a phase
+abbrev pub isIn : Phase → Core → Bool
+isIn phase core = eqb (core .phase) (phaseNumber phase)
 
 -- a station of a core and a list
 abbrev pub stationOf : Core → Members → Station

@@ -10,16 +10,16 @@ ghost use Rattle.station.specs.Answers.{phaseNumber};
 pub fn phase_of(number: u8) -> Phase
     ensures { λ r. ⌜ r ≡ phaseOf number ⌝ }
 {
-    if number == 1 {
+    if number == crate::LISTENING {
         return Phase::Listening;
     }
-    if number == 2 {
+    if number == crate::STARTUP {
         return Phase::Startup;
     }
-    if number == 3 {
+    if number == crate::JOINING {
         return Phase::Joining;
     }
-    if number == 4 {
+    if number == crate::PARTICIPATING {
         return Phase::Participating;
     }
     Phase::Off
@@ -29,11 +29,11 @@ fn phase_number(phase: Phase) -> u8
     ensures { λ r. ⌜ r ≡ phaseNumber phase ⌝ }
 {
     match phase {
-        Phase::Off => 0,
-        Phase::Listening => 1,
-        Phase::Startup => 2,
-        Phase::Joining => 3,
-        Phase::Participating => 4,
+        Phase::Off => crate::OFF,
+        Phase::Listening => crate::LISTENING,
+        Phase::Startup => crate::STARTUP,
+        Phase::Joining => crate::JOINING,
+        Phase::Participating => crate::PARTICIPATING,
     }
 }
 

@@ -18,6 +18,17 @@ use station::Gathering;
 use station::Settings;
 use units::Ticks;
 
+// The phases' numbers. No other is a phase's.
+pub const OFF: u8 = 0;
+
+pub const LISTENING: u8 = 1;
+
+pub const STARTUP: u8 = 2;
+
+pub const JOINING: u8 = 3;
+
+pub const PARTICIPATING: u8 = 4;
+
 // A station's state without its list, its phase as a number. In this order it has 40 octets, which compilers copy in pieces that do not
 // overlap; 44 would be copied in pieces that do, and reading such a piece right after it was stored stalls the processor.
 #[repr(C)]

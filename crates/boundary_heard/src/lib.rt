@@ -27,7 +27,7 @@ fn restart(core: Core, view: u8, gathering: Gathering) -> Core
     let block = states::place_kept(view, number, core.block);
     let panel = states::taken_if(states::takes(number, core.view, view), counter);
     Core {
-        phase: 4,
+        phase: boundary::PARTICIPATING,
         elapsed: Ticks(0),
         view,
         block,

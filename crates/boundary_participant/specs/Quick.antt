@@ -1,5 +1,5 @@
 -- A participant's calls on its core, where the list is left as it is but for one station's misses; and that they are the calls of its station.
--- A core's phase is a number, and 4 is that of participating.
+-- A core's phase is a number, and 4 is that of participating, by which the proofs here go.
 use Prim.Native.Nat.{ℕ, _+_}
 use mathlib.Core.Bool.{Bool, true, false, cond, not, _&&_, _||_}
 use mathlib.Core.List.{List}
@@ -20,6 +20,7 @@ use Rattle.panel.specs.Panel.{ticked, taken}
 use Rattle.reading.specs.Reading.{andThen, readOf, readHeaderOf, readBodyOf, dataOf}
 use Rattle.reading.specs.declared.Read.{Read}
 use Rattle.reading.specs.declared.Read.the-variants as reads
+use Rattle.station.specs.Answers.{phaseNumber}
 use Rattle.station.specs.Asking as asks
 use Rattle.station.specs.Data.{gathered}
 use Rattle.station.specs.Hearing.{Hearing, hearOf, headerHeard, participantHeard, lentRight}
@@ -29,14 +30,15 @@ use Rattle.station.specs.Token.{takes}
 use Rattle.station.specs.Waits.{watchTicks, longestWatch}
 use Rattle.station.specs.declared.Asked.the-variants.{Octets}
 use Rattle.station.specs.declared.Gathering.{Gathering}
+use Rattle.station.specs.declared.Phase.the-variants.{Participating}
 use Rattle.station.specs.declared.Ticked.the-variants.{Done}
 use Rattle.writing.specs.Writing.{wholeLength, outputOf}
-use Rattle.boundary.specs.Crossing.{stationOf, coreOf}
+use Rattle.boundary.specs.Crossing.{stationOf, coreOf, isIn}
 use Rattle.boundary.specs.declared.Core.{Core}
 
 -- a participant whose next tick does not end its watch
 abbrev pub isQuiet : Core → Bool
-isQuiet core = eqb (core .phase) 4 && not (leb (watchTicks (core .own .watch)) (core .elapsed .0 + 1))
+isQuiet core = isIn Participating core && not (leb (watchTicks (core .own .watch)) (core .elapsed .0 + 1))
 
 -- its tick
 abbrev pub quietAfter : Core → Core
@@ -68,7 +70,7 @@ quiet-core core members quiet =
 -- a participant whose watch restarts, with another view and gathering
 abbrev pub restartedCore : Core → ℕ → Gathering → Core
 restartedCore core view gathering = record {
-  phase = 4;
+  phase = phaseNumber Participating;
   own = core .own;
   elapsed = noTicks;
   waited = core .waited;
@@ -83,7 +85,7 @@ restartedCore core view gathering = record {
 -- whether a participant accepts a cyclic frame that was read: neither number 6 nor number 9 applies
 abbrev pub isAccepted : Core → Bool → Bool → Fields → Bool
 isAccepted core source destination frame =
-    (eqb (core .phase) 4 && isCyclic (frame .code))
+    (isIn Participating core && isCyclic (frame .code))
     && ((not (eqb (frame .source) (core .own .number)) && source)
     && (not (isToken (frame .code)) || (eqb (frame .destination) (core .own .number) || destination)))
 
@@ -127,7 +129,7 @@ whole-body octets frame e = header-body octets frame (readHeaderOf octets) e
 
 -- a participant that holds, with a block of its turn to send
 abbrev pub holdsBlock : Core → Bool
-holdsBlock core = eqb (core .phase) 4 && (eqb (core .view) (core .own .number) && placedIn (core .own .areas) (core .block))
+holdsBlock core = isIn Participating core && (eqb (core .view) (core .own .number) && placedIn (core .own .areas) (core .block))
 
 pub held-placed : (core : Core) → holdsBlock core ≡ true → placedIn (core .own .areas) (core .block) ≡ true
 held-placed core e =
@@ -138,7 +140,7 @@ held-placed core e =
 -- it after the block is sent, with the number that is next after ours
 abbrev pub sentCore : Core → ℕ → Core
 sentCore core next = record {
-  phase = 4;
+  phase = phaseNumber Participating;
   own = core .own;
   elapsed = noTicks;
   waited = core .waited;

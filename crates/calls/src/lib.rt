@@ -20,7 +20,7 @@ ghost use Rattle.station.specs.Hearing.{hearOf};
 fn hear_frame(
     core: Core,
     listed: &mut [bool; 256],
-    areas: &mut [u16; 1024],
+    areas: &mut [u16; lists::AREA_NUMBERS],
     watch: &mut [u8; 256],
     misses: &mut [u8; 256],
     frame: Fields,
@@ -39,7 +39,7 @@ fn hear_frame(
     let destination = frame.destination;
     let sender = lists::is_listed(listed, source);
     let taker = lists::is_listed(listed, destination);
-    let lent = (memory.len() == 17408) & (assembly.len() == 17408);
+    let lent = (memory.len() == area::MEMORY_OCTETS) & (assembly.len() == area::MEMORY_OCTETS);
     if boundary_participant::is_accepted(core, sender, taker, frame) & lent {
         return in_place::hear(
             core,
@@ -61,7 +61,7 @@ fn hear_frame(
 pub fn hear(
     core: Core,
     listed: &mut [bool; 256],
-    areas: &mut [u16; 1024],
+    areas: &mut [u16; lists::AREA_NUMBERS],
     watch: &mut [u8; 256],
     misses: &mut [u8; 256],
     octets: &[u8],
@@ -102,7 +102,7 @@ pub fn hear(
 pub fn ask(
     core: Core,
     listed: &mut [bool; 256],
-    areas: &mut [u16; 1024],
+    areas: &mut [u16; lists::AREA_NUMBERS],
     watch: &mut [u8; 256],
     misses: &mut [u8; 256],
     memory: &[u8],

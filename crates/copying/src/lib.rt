@@ -11,6 +11,9 @@ fn put(source: &[u8], target: &mut [u8], at: usize)
     bytes::copy(source, &mut target[at..]);
 }
 
+// How many octets are copied at a time.
+const PIECE: usize = 1024;
+
 // Copies a piece, by way of an array of our own. Nothing else points to the array, so that the compiler sees that neither copy overlaps: it
 // makes one `memmove` of the two and leaves the array out, which is faster than its loop (docs/PERFORMANCE.md).
 fn put_piece(source: &[u8], target: &mut [u8], at: usize)
@@ -18,7 +21,7 @@ fn put_piece(source: &[u8], target: &mut [u8], at: usize)
     requires { ⌜ at + length (now source) ≤ length (now target) ⌝ }
     ensures { λ _. ⌜ now (target .exit) ≡ pasted (now (target .entry)) at (now (source .entry)) ⌝ }
 {
-    let mut between = [0u8; 1024];
+    let mut between = [0u8; PIECE];
     bytes::copy(source, &mut between);
     put(&between[0..source.len()], target, at);
 }
@@ -28,10 +31,10 @@ fn piece_end(start: usize, all: usize) -> usize
     requires { ⌜ start ≤ all ⌝ }
     ensures { λ r. ⌜ r ≡ start + min 1024 (all - start) ⌝ }
 {
-    if all - start < 1024 {
+    if all - start < PIECE {
         all
     } else {
-        start + 1024
+        start + PIECE
     }
 }
 

@@ -11,7 +11,7 @@ ghost use Rattle.station.specs.Ticking.{tickOf};
 pub fn tick(
     core: Core,
     listed: &mut [bool; 256],
-    areas: &mut [u16; 1024],
+    areas: &mut [u16; lists::AREA_NUMBERS],
     watch: &mut [u8; 256],
     misses: &mut [u8; 256],
 ) -> Outcome
@@ -31,7 +31,7 @@ pub fn tick(
             answer: boundary::done(),
         };
     }
-    if core.phase == 0 {
+    if core.phase == boundary::OFF {
         return Outcome {
             core,
             answer: boundary::ticked_answer(Ticked::Off),

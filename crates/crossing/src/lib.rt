@@ -12,7 +12,7 @@ ghost use Rattle.lists.specs.Lists.{membersIn};
 pub fn station_of(
     core: Core,
     listed: &[bool; 256],
-    areas: &[u16; 1024],
+    areas: &[u16; lists::AREA_NUMBERS],
     watch: &[u8; 256],
     misses: &[u8; 256],
 ) -> Station
@@ -26,7 +26,7 @@ pub fn keep(
     station: Station,
     answer: Answer,
     listed: &mut [bool; 256],
-    areas: &mut [u16; 1024],
+    areas: &mut [u16; lists::AREA_NUMBERS],
     watch: &mut [u8; 256],
     misses: &mut [u8; 256],
 ) -> Outcome

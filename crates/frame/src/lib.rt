@@ -97,6 +97,9 @@ pub fn carries_areas(code: Code) -> bool
     }
 }
 
+// What the longest frame that we write takes: a header of 64 octets and a block of 1024. An output has room for it.
+pub const OUTPUT_OCTETS: usize = 1088;
+
 // Each refusal under the paper's word for it, in the order of the numbers.
 pub enum Refusal {
     Cut,

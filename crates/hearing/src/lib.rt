@@ -184,7 +184,7 @@ pub fn hear(station: Station, octets: &[u8], memory: &mut [u8], assembly: &mut [
     ensures { λ _. ⌜ now (memory .exit) ≡ hearOf station (now (octets .entry)) (now (memory .entry)) (now (assembly .entry)) .memory ⌝ }
     ensures { λ _. ⌜ now (assembly .exit) ≡ hearOf station (now (octets .entry)) (now (memory .entry)) (now (assembly .entry)) .assembly ⌝ }
 {
-    if (memory.len() != 17408) | (assembly.len() != 17408) {
+    if (memory.len() != area::MEMORY_OCTETS) | (assembly.len() != area::MEMORY_OCTETS) {
         return refused(station, Refusal::Buffer);
     }
     match reading::read_header(octets) {

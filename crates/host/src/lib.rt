@@ -19,7 +19,7 @@ ghost use Rattle.station.specs.Ticking.{tickOf};
 #[no_mangle]
 pub extern "C" fn flnet_new(
     listed: &mut [bool; 256],
-    areas: &mut [u16; 1024],
+    areas: &mut [u16; lists::AREA_NUMBERS],
     watch: &mut [u8; 256],
     misses: &mut [u8; 256],
 ) -> Core
@@ -33,7 +33,7 @@ pub extern "C" fn flnet_new(
 pub extern "C" fn flnet_start(
     core: Core,
     listed: &mut [bool; 256],
-    areas: &mut [u16; 1024],
+    areas: &mut [u16; lists::AREA_NUMBERS],
     watch: &mut [u8; 256],
     misses: &mut [u8; 256],
     own: Settings,
@@ -49,7 +49,7 @@ pub extern "C" fn flnet_start(
 pub extern "C" fn flnet_stop(
     core: Core,
     listed: &mut [bool; 256],
-    areas: &mut [u16; 1024],
+    areas: &mut [u16; lists::AREA_NUMBERS],
     watch: &mut [u8; 256],
     misses: &mut [u8; 256],
 ) -> Outcome
@@ -64,7 +64,7 @@ pub extern "C" fn flnet_stop(
 pub extern "C" fn flnet_tick(
     core: Core,
     listed: &mut [bool; 256],
-    areas: &mut [u16; 1024],
+    areas: &mut [u16; lists::AREA_NUMBERS],
     watch: &mut [u8; 256],
     misses: &mut [u8; 256],
 ) -> Outcome
@@ -79,7 +79,7 @@ pub extern "C" fn flnet_tick(
 pub extern "C" fn flnet_hear(
     core: Core,
     listed: &mut [bool; 256],
-    areas: &mut [u16; 1024],
+    areas: &mut [u16; lists::AREA_NUMBERS],
     watch: &mut [u8; 256],
     misses: &mut [u8; 256],
     octets: &[u8],
@@ -99,7 +99,7 @@ pub extern "C" fn flnet_hear(
 pub extern "C" fn flnet_ask(
     core: Core,
     listed: &mut [bool; 256],
-    areas: &mut [u16; 1024],
+    areas: &mut [u16; lists::AREA_NUMBERS],
     watch: &mut [u8; 256],
     misses: &mut [u8; 256],
     memory: &[u8],

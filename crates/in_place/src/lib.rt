@@ -21,7 +21,7 @@ ghost use Rattle.station.specs.Hearing.{lentRight, hearOf};
 pub fn hear(
     core: Core,
     listed: &mut [bool; 256],
-    areas: &mut [u16; 1024],
+    areas: &mut [u16; lists::AREA_NUMBERS],
     watch: &mut [u8; 256],
     misses: &mut [u8; 256],
     source: u8,
@@ -51,7 +51,7 @@ pub fn hear(
 pub fn ask(
     core: Core,
     listed: &[bool; 256],
-    areas: &[u16; 1024],
+    areas: &[u16; lists::AREA_NUMBERS],
     watch: &[u8; 256],
     misses: &[u8; 256],
     memory: &[u8],

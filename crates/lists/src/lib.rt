@@ -11,6 +11,9 @@ ghost use lib.ListN.{getD, set};
 ghost use Rattle.members.specs.Members.{entryOf};
 ghost use Rattle.lists.specs.Lists.{membersIn};
 
+// Four numbers for the areas of each of 256 stations: address and size in area 1, and in area 2.
+pub const AREA_NUMBERS: usize = 1024;
+
 pub fn is_listed(listed: &[bool; 256], number: u8) -> bool
     ensures { λ r. ⌜ r ≡ getD (now (listed .entry)) number false ⌝ }
 {
@@ -19,7 +22,7 @@ pub fn is_listed(listed: &[bool; 256], number: u8) -> bool
 
 pub fn entry_at(
     listed: &[bool; 256],
-    areas: &[u16; 1024],
+    areas: &[u16; AREA_NUMBERS],
     watch: &[u8; 256],
     misses: &[u8; 256],
     number: u8,
@@ -54,7 +57,7 @@ pub fn clear(misses: &mut [u8; 256], number: u8)
 // The list as one value.
 pub fn members_of(
     listed: &[bool; 256],
-    areas: &[u16; 1024],
+    areas: &[u16; AREA_NUMBERS],
     watch: &[u8; 256],
     misses: &[u8; 256],
 ) -> Members

@@ -13,7 +13,9 @@ ghost use Rattle.station.specs.Asking.{placedIn, lastIn, lentRight};
 pub fn is_lent_right(memory: &[u8], turn: &[u8], output: &[u8]) -> bool
     ensures { λ r. ⌜ r ≡ lentRight (now (memory .entry)) (now (turn .entry)) (now (output .entry)) ⌝ }
 {
-    (memory.len() == 17408) & (turn.len() == 17408) & (1088 <= output.len())
+    (memory.len() == area::MEMORY_OCTETS)
+        & (turn.len() == area::MEMORY_OCTETS)
+        & (frame::OUTPUT_OCTETS <= output.len())
 }
 
 // Where so many blocks of our turn have been sent, there is a next one.

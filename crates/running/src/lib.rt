@@ -14,7 +14,7 @@ ghost use Rattle.station.specs.Ticking.{tickOf};
 pub fn start(
     core: Core,
     listed: &mut [bool; 256],
-    areas: &mut [u16; 1024],
+    areas: &mut [u16; lists::AREA_NUMBERS],
     watch: &mut [u8; 256],
     misses: &mut [u8; 256],
     own: Settings,
@@ -40,7 +40,7 @@ pub fn start(
 pub fn stop(
     core: Core,
     listed: &mut [bool; 256],
-    areas: &mut [u16; 1024],
+    areas: &mut [u16; lists::AREA_NUMBERS],
     watch: &mut [u8; 256],
     misses: &mut [u8; 256],
 ) -> Outcome
@@ -65,7 +65,7 @@ pub fn stop(
 pub fn tick(
     core: Core,
     listed: &mut [bool; 256],
-    areas: &mut [u16; 1024],
+    areas: &mut [u16; lists::AREA_NUMBERS],
     watch: &mut [u8; 256],
     misses: &mut [u8; 256],
 ) -> Outcome

@@ -64,6 +64,6 @@ pub fn send_next(
 {
     let areas = own.areas;
     make_turn(areas, block, memory, turn);
-    let start = 1024 * block as usize;
+    let start = block::BLOCK_OCTETS * block as usize;
     write_block(block_fields(own, block, next), &turn[start..], output)
 }

@@ -11,7 +11,7 @@ ghost use Rattle.station.specs.State.{never};
 // A station that was never started: its state, and its list, which is empty.
 pub fn new(
     listed: &mut [bool; 256],
-    areas: &mut [u16; 1024],
+    areas: &mut [u16; lists::AREA_NUMBERS],
     watch: &mut [u8; 256],
     misses: &mut [u8; 256],
 ) -> Core

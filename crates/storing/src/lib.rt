@@ -32,7 +32,7 @@ pub fn put(
     entry: Entry,
     number: u8,
     listed: &mut [bool; 256],
-    areas: &mut [u16; 1024],
+    areas: &mut [u16; lists::AREA_NUMBERS],
     watch: &mut [u8; 256],
     misses: &mut [u8; 256],
 )
@@ -45,7 +45,7 @@ pub fn put(
 pub fn write(
     members: Members,
     listed: &mut [bool; 256],
-    areas: &mut [u16; 1024],
+    areas: &mut [u16; lists::AREA_NUMBERS],
     watch: &mut [u8; 256],
     misses: &mut [u8; 256],
 )

@@ -1,16 +1,20 @@
 -- The ticks of a station that does not participate yet, on its core: those that only count, which are all but the ones that end a wait. A core's
--- phase is a number: 1 listening, 2 ring startup, 3 joining.
+-- phase is a number, by which the proofs go: 1 listening, 2 ring startup, 3 joining.
 use Prim.Native.Nat.{ℕ}
 use mathlib.Core.Bool.{Bool, cond, not, _&&_, _||_}
 use lib.Dec.{eqb, leb, ltb}
+use Rattle.station.specs.Answers.{phaseNumber}
 use Rattle.station.specs.Ticking.{later}
 use Rattle.station.specs.Waits.{detectionWait, acceptanceTime, numberWait, listeningTime}
+use Rattle.station.specs.declared.Phase.the-variants.{Listening, Startup, Joining}
 use Rattle.units.specs.declared.Ticks.{Ticks}
+use Rattle.boundary.specs.Crossing.{isIn}
 use Rattle.boundary.specs.declared.Core.{Core}
 
 -- what the phase's ticks are counted up to
 abbrev pub limitOf : ℕ → ℕ → ℕ
-limitOf phase number = cond (eqb phase 1) (listeningTime number) (cond (eqb phase 2) acceptanceTime detectionWait)
+limitOf phase number =
+    cond (eqb phase (phaseNumber Listening)) (listeningTime number) (cond (eqb phase (phaseNumber Startup)) acceptanceTime detectionWait)
 
 -- in joining, the wait for our number runs from the end of the third round
 abbrev pub waitedThen : Core → Ticks
@@ -29,7 +33,7 @@ joiningEnds core = leb detectionWait (later detectionWait (core .elapsed) .0) ||
 
 -- the next tick only counts
 abbrev pub isWaiting : Core → Bool
-isWaiting core = eqb (core .phase) 1 || ((eqb (core .phase) 2 && not (startupEnds core)) || (eqb (core .phase) 3 && not (joiningEnds core)))
+isWaiting core = isIn Listening core || ((isIn Startup core && not (startupEnds core)) || (isIn Joining core && not (joiningEnds core)))
 
 -- the core after it
 abbrev pub waitedCore : Core → Core
@@ -37,7 +41,7 @@ waitedCore core = record {
   phase = core .phase;
   own = core .own;
   elapsed = later (limitOf (core .phase) (core .own .number)) (core .elapsed);
-  waited = cond (eqb (core .phase) 3) (waitedThen core) (core .waited);
+  waited = cond (isIn Joining core) (waitedThen core) (core .waited);
   rounds = core .rounds;
   sent = core .sent;
   view = core .view;

@@ -10,10 +10,10 @@ ghost use Rattle.waiting.specs.Waiting.{limitOf, waitedThen, startupEnds
 fn limit(phase: u8, number: u8) -> Ticks
     ensures { λ r. ⌜ r .0 ≡ limitOf phase number ⌝ }
 {
-    if phase == 1 {
+    if phase == boundary::LISTENING {
         return states::listening_time(number);
     }
-    if phase == 2 {
+    if phase == boundary::STARTUP {
         return states::acceptance_time();
     }
     states::detection_wait()
@@ -49,8 +49,9 @@ fn joining_ends(core: Core) -> bool
 pub fn is_waiting(core: Core) -> bool
     ensures { λ r. ⌜ r ≡ isWaiting core ⌝ }
 {
-    (core.phase == 1)
-        | (((core.phase == 2) & !startup_ends(core)) | ((core.phase == 3) & !joining_ends(core)))
+    (core.phase == boundary::LISTENING)
+        | (((core.phase == boundary::STARTUP) & !startup_ends(core))
+            | ((core.phase == boundary::JOINING) & !joining_ends(core)))
 }
 
 fn waited_by(core: Core) -> Ticks
@@ -58,7 +59,7 @@ fn waited_by(core: Core) -> Ticks
 {
     let number = core.own.number;
     let waited = core.waited;
-    if core.phase == 3 {
+    if core.phase == boundary::JOINING {
         ticking::waited_then(number, core.rounds, waited)
     } else {
         waited

@@ -13,7 +13,7 @@ ghost use Rattle.station.specs.Hearing.{hearOf};
 pub fn hear(
     core: Core,
     listed: &mut [bool; 256],
-    areas: &mut [u16; 1024],
+    areas: &mut [u16; lists::AREA_NUMBERS],
     watch: &mut [u8; 256],
     misses: &mut [u8; 256],
     octets: &[u8],
@@ -36,7 +36,7 @@ pub fn hear(
 pub fn ask(
     core: Core,
     listed: &mut [bool; 256],
-    areas: &mut [u16; 1024],
+    areas: &mut [u16; lists::AREA_NUMBERS],
     watch: &mut [u8; 256],
     misses: &mut [u8; 256],
     memory: &[u8],
