@@ -9,6 +9,8 @@ pub mod Ticking
 pub mod Hearing
 pub mod Asking
 pub mod Calls
+-- The outcomes of each call, which the theorems go by.
+pub mod HearCases
 -- Theorems.
 pub mod Acts
 pub mod Refusing

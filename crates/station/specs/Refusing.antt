@@ -1,25 +1,24 @@
 -- Demand 1: "a numbered refusal changes no buffer, and no station state except in the one case that the table names". Assumes nothing.
-use mathlib.Core.Path.{_≡_, refl, ap₂, sym, subst, _∙_}
+use mathlib.Core.Path.{_≡_, refl, ap₂, sym, _∙_}
 use mathlib.Core.Bool.{Bool, true, false, cond, not, _&&_}
 use mathlib.Core.List.{List, [], _∷_}
 use Prim.Native.Nat.{ℕ}
 use native.Mathlib.Omega.{arith}
 use lib.Dec.{ltb}
-use lib.ListN.{length}
 use Rattle.area.specs.Areas.{inRange}
 use Rattle.frame.specs.Codes.{isCyclic}
 use Rattle.frame.specs.declared.Fields.{Fields}
 use Rattle.frame.specs.declared.Refusal.{Refusal}
 use Rattle.frame.specs.declared.Refusal.the-variants as refusals
-use Rattle.reading.specs.Reading.{isStation, readHeaderOf, readBodyOf}
-use Rattle.reading.specs.declared.Read.{Read}
-use Rattle.reading.specs.declared.Read.the-variants.{Frame, Refused}
+use Rattle.reading.specs.Reading.{isStation}
 use Rattle.station.specs.Asking as asking
 use Rattle.station.specs.Calls.{Call, start, stop, tick, hear, ask, lent, lentAfter, after, refusedBy, taken, verdict, switchedVerdict, heardVerdict, askedVerdict}
-use Rattle.station.specs.Hearing.{Hearing, lentRight, refused, isTaken, afterTaken, isStranger, accepted, bodyHeard, headerHeard, hearOf}
+use Rattle.station.specs.HearCases.{EnterCases, off, begins, joins, passes, reads, lists, ignores, HearCases, refuses, turnsOff, gathers, heeds, hear-cases}
+use Rattle.station.specs.Hearing.{Hearing, lentRight, refused, accepted}
 use Rattle.station.specs.Starting.{Switching, need}
 use Rattle.station.specs.State.{isOff, isParticipating, stopped}
 use Rattle.station.specs.declared.Data.the-variants.{Dropped}
+use Rattle.station.specs.declared.Heard.{Heard}
 use Rattle.station.specs.declared.Heard.the-variants as heard
 use Rattle.station.specs.declared.Station.{Station}
 use Rattle.station.specs.declared.Token.the-variants as tokens
@@ -62,53 +61,22 @@ accepted-taken station frame octets memory assembly =
     entered false false = refl
 
 -- hearing: what is left where the answer is a refusal
-abbrev Keeps : Station → List ℕ → List ℕ → Hearing → Type 0
-Keeps station memory assembly result =
-    (refusal : Refusal) → heardVerdict (result .answer) ≡ refusedBy refusal →
+entered-accepted : {station left : Station} {frame : Fields} {answer : Heard} → EnterCases station frame left answer → heardVerdict answer ≡ taken
+entered-accepted (off e) = refl
+entered-accepted (begins e c) = refl
+entered-accepted (joins e c) = refl
+entered-accepted (passes e c) = refl
+entered-accepted (reads e c) = refl
+entered-accepted (lists e c) = refl
+entered-accepted (ignores e) = refl
+
+hear-keeps : {station : Station} {octets memory assembly : List ℕ} {result : Hearing} (refusal : Refusal) → HearCases station octets memory assembly result →
+    heardVerdict (result .answer) ≡ refusedBy refusal →
     Spared station (result .station) refusal × (result .memory ≡ memory) × (result .assembly ≡ assembly)
-
-module _ (station : Station) (memory assembly : List ℕ) where
-  refused-keeps : (other : Refusal) → Keeps station memory assembly (refused station memory assembly other)
-  refused-keeps other refusal e = (same refl, refl, refl)
-
-  taken-spared : (test : Bool) → isParticipating (station .phase) ≡ test → Spared station (cond test station (stopped station)) refusals.Taken
-  taken-spared true e = same refl
-  taken-spared false e = turnedOff refl e refl
-
-  taken-keeps : Keeps station memory assembly (refused (afterTaken station) memory assembly refusals.Taken)
-  taken-keeps refusal e =
-      let six : refusals.Taken ≡ refusal = cc in
-      (subst (Spared station (afterTaken station)) six (taken-spared (isParticipating (station .phase)) refl), refl, refl)
-
-  accepted-keeps : (frame : Fields) (octets : List ℕ) → Keeps station memory assembly (accepted station frame octets memory assembly)
-  accepted-keeps frame octets refusal e = absurd (not-taken (sym (accepted-taken station frame octets memory assembly) ∙ e))
-
-  body-keeps : (octets : List ℕ) (read : Read) → Keeps station memory assembly (bodyHeard station octets memory assembly read)
-  body-keeps octets (Refused other) = refused-keeps other
-  body-keeps octets (Frame frame) = by (isStranger station frame)
-    where
-      by : (test : Bool) → Keeps station memory assembly
-          (cond test (refused station memory assembly refusals.Stranger) (accepted station frame octets memory assembly))
-      by true = refused-keeps refusals.Stranger
-      by false = accepted-keeps frame octets
-
-  header-keeps : (octets : List ℕ) (read : Read) → Keeps station memory assembly (headerHeard station octets memory assembly read)
-  header-keeps octets (Refused other) = refused-keeps other
-  header-keeps octets (Frame frame) = by (isTaken station frame)
-    where
-      by : (test : Bool) → Keeps station memory assembly
-          (cond test (refused (afterTaken station) memory assembly refusals.Taken)
-          (bodyHeard station octets memory assembly (readBodyOf (length octets) frame)))
-      by true = taken-keeps
-      by false = body-keeps octets (readBodyOf (length octets) frame)
-
-  hear-keeps : (octets : List ℕ) → Keeps station memory assembly (hearOf station octets memory assembly)
-  hear-keeps octets = by (lentRight memory assembly)
-    where
-      by : (test : Bool) → Keeps station memory assembly
-          (cond test (headerHeard station octets memory assembly (readHeaderOf octets)) (refused station memory assembly refusals.Buffer))
-      by true = header-keeps octets (readHeaderOf octets)
-      by false = refused-keeps refusals.Buffer
+hear-keeps refusal (refuses other) e = (same refl, refl, refl)
+hear-keeps refusal (turnsOff out) e = (turnedOff (cc) out refl, refl, refl)
+hear-keeps refusal (gathers frame facts parts) e = absurd (not-taken e)
+hear-keeps refusal (heeds frame facts entered) e = absurd (not-taken (sym (entered-accepted entered) ∙ e))
 
 -- asking: what is left where the answer is a refusal
 ask-keeps : (station : Station) (memory turn output : List ℕ) (refusal : Refusal) →
@@ -149,7 +117,7 @@ refused-left station stop refusal e = record {
 }
 refused-left station tick refusal e = absurd (not-taken e)
 refused-left station (hear octets memory assembly) refusal e =
-    let kept = hear-keeps station memory assembly octets refusal e in
+    let kept = hear-keeps refusal (hear-cases station octets memory assembly) e in
     record { state = kept .0; buffers = ap₂ (λ (m a : List ℕ). octets ∷ m ∷ a ∷ []) (kept .1) (kept .2) }
 refused-left station (ask memory turn output) refusal e =
     let kept = ask-keeps station memory turn output refusal e in
