@@ -18,7 +18,7 @@ use Rattle.station.specs.ApartTicking.{fresh-apart, start-apart, stop-ap
 use Rattle.station.specs.Asking as asking
 use Rattle.station.specs.Calls.{Call, start, stop, tick, hear, ask, after}
 use Rattle.station.specs.HearCases.{off, begins, joins, passes, reads, lists, ignores, awaits-on, HearCases, refuses, turnsOff, gathers, heeds, hear-cases}
-use Rattle.station.specs.Hearing.{requested, lentRight, refused, Hearing}
+use Rattle.station.specs.Hearing.{requested, Hearing}
 use Rattle.station.specs.KeepsAsking.{sound}
 use Rattle.station.specs.KeepsEntering.{same-fallen}
 use Rattle.station.specs.Reachable.{Reachable, unstarted, called, Sound}

@@ -14,7 +14,7 @@ use Rattle.reading.specs.Reading.{isStation}
 use Rattle.station.specs.Asking as asking
 use Rattle.station.specs.Calls.{Call, start, stop, tick, hear, ask, lent, lentAfter, after, refusedBy, taken, verdict, switchedVerdict, heardVerdict, askedVerdict}
 use Rattle.station.specs.HearCases.{EnterCases, off, begins, joins, passes, reads, lists, ignores, HearCases, refuses, turnsOff, gathers, heeds, hear-cases}
-use Rattle.station.specs.Hearing.{Hearing, lentRight, refused, accepted}
+use Rattle.station.specs.Hearing.{Hearing, accepted}
 use Rattle.station.specs.Starting.{Switching, need}
 use Rattle.station.specs.State.{isOff, isParticipating, stopped}
 use Rattle.station.specs.declared.Data.the-variants.{Dropped}

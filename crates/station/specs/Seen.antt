@@ -18,7 +18,7 @@ use Rattle.reading.specs.Reading.{isStation}
 use Rattle.station.specs.Asking as asking
 use Rattle.station.specs.Calls.{Call, start, stop, tick, hear, ask, after}
 use Rattle.station.specs.HearCases.{off, begins, joins, passes, reads, lists, ignores, HearCases, refuses, turnsOff, gathers, heeds, hear-cases}
-use Rattle.station.specs.Hearing.{knows, lentRight, refused, Hearing}
+use Rattle.station.specs.Hearing.{knows, Hearing}
 use Rattle.station.specs.Reachable.{Sound}
 use Rattle.station.specs.Starting.{Switching, need, startedUp}
 use Rattle.station.specs.State.{isOff, isParticipating}
