@@ -7,7 +7,6 @@ use native.Mathlib.Omega.{arith}
 use lib.Dec.{eqb, leb, ltb}
 use borrow.Author.Tests.{leb-true, ltb-true, ltb-false, eq-eqb, ne-eqb}
 use Rattle.frame.specs.declared.Fields.{Fields}
-use Rattle.frame.specs.declared.Refusal.the-variants as refusals
 use Rattle.laws.specs.Tests.{both, second}
 use Rattle.members.specs.Listing.{listing}
 use Rattle.members.specs.declared.Members.{Members}
@@ -15,7 +14,7 @@ use Rattle.reading.specs.Reading.{isStation}
 use Rattle.writing.specs.Writing.{noAreas}
 use Rattle.station.specs.Apart.{Disjoint, Clear, Apart, disjoint-misses, clear-misses, disjoint-listing, clear-listing}
 use Rattle.station.specs.ApartTicking.{fresh-apart, start-apart, stop-apart, tick-apart, station-from}
-use Rattle.station.specs.Asking as asking
+use Rattle.station.specs.AskCases as on-asking
 use Rattle.station.specs.Calls.{Call, start, stop, tick, hear, ask, after}
 use Rattle.station.specs.HearCases.{off, begins, joins, passes, reads, lists, ignores, awaits-on, HearCases, refuses, turnsOff, gathers, heeds, hear-cases}
 use Rattle.station.specs.Hearing.{requested, Hearing}
@@ -25,9 +24,9 @@ use Rattle.station.specs.Reachable.{Reachable, unstarted, called, Sound}
 use Rattle.station.specs.Starting.{requestFallen, oursDue, joinedBy}
 use Rattle.station.specs.State.{fresh}
 use Rattle.station.specs.Waits.{numberWait}
-use Rattle.station.specs.declared.Phase.{Phase}
-use Rattle.station.specs.declared.Phase.the-variants.{Off, Listening, Startup, Joining, Participating}
+use Rattle.station.specs.declared.Phase.the-variants.{Off, Startup, Joining}
 use Rattle.station.specs.declared.Station.{Station}
+use Rattle.station.specs.Asking.{Asking}
 
 -- what joining reads: nothing is listed any more when our request falls due
 joined-apart : (station : Station) (frame : Fields) → station .phase ≡ Joining → Apart station → isStation (station .own .number) ≡ true
@@ -55,14 +54,6 @@ joined-apart station frame e apart number three early = record {
     ours false m z =
         let all = ltb-false (station .rounds) 3 m in
         apart .ours (rw e (both (eq-eqb (station .rounds) 3 (omega arith)) z))
-
--- sending our request alters nothing of whether it has fallen due
-sent-fallen : (phase : Phase) (station : Station) → requestFallen phase (asking.requestSent station) ≡ requestFallen phase station
-sent-fallen Off station = refl
-sent-fallen Listening station = refl
-sent-fallen Startup station = refl
-sent-fallen Joining station = refl
-sent-fallen Participating station = refl
 
 module _ (station : Station) (ok : Sound station) (apart : Apart station) where
   requested-apart : (frame : Fields) → Apart (requested station frame)
@@ -92,25 +83,12 @@ module _ (station : Station) (ok : Sound station) (apart : Apart station) where
   hear-apart (heeds frame facts (lists e c)) = requested-apart frame
   hear-apart (heeds frame facts (ignores e)) = apart
 
-  sent-apart : (phase : Phase) → station .phase ≡ phase → asking.dueIn phase station ≡ true → Apart (asking.sentIn phase station)
-  sent-apart Off e due = apart
-  sent-apart Listening e due = fresh-apart Startup (station .own)
-  sent-apart Startup e due = record { listed = apart .listed; ours = λ z. apart .ours (sym (sent-fallen (station .phase) station) ∙ z) }
-  sent-apart Joining e due = record { listed = apart .listed; ours = λ z. apart .ours (rw e due) }
-  sent-apart Participating e due = record { listed = apart .listed; ours = λ z. apart .ours (rw e) }
-
-  ask-apart : (memory turn output : List ℕ) → Apart (asking.askOf station memory turn output .station)
-  ask-apart memory turn output = by (asking.lentRight memory turn output) (asking.dueIn (station .phase) station) refl
-    where
-      by : (right due : Bool) → asking.dueIn (station .phase) station ≡ due → Apart
-          (cond right
-          (cond due
-          (asking.written station (asking.turnAfter (station .phase) station memory turn) output)
-          (asking.refused station turn output refusals.NotDue))
-          (asking.refused station turn output refusals.Buffer) .station)
-      by true true d = sent-apart (station .phase) refl d
-      by true false d = apart
-      by false due d = apart
+  ask-apart : {memory turn output : List ℕ} {result : Asking} → on-asking.AskCases station memory turn output result → Apart (result .station)
+  ask-apart (on-asking.refuses refusal) = apart
+  ask-apart (on-asking.sends lent is (on-asking.triggers e due)) = fresh-apart Startup (station .own)
+  ask-apart (on-asking.sends lent is (on-asking.requests e fallen)) = record { listed = apart .listed; ours = λ z. apart .ours (rw e fallen) }
+  ask-apart (on-asking.sends lent is (on-asking.begins e fallen)) = record { listed = apart .listed; ours = λ z. apart .ours (rw e fallen) }
+  ask-apart (on-asking.sends lent is (on-asking.passes e held placed)) = record { listed = apart .listed; ours = λ z. apart .ours (rw e) }
 
   -- every call keeps the areas apart
   pub kept-apart : (call : Call) → Apart (after station call)
@@ -118,7 +96,7 @@ module _ (station : Station) (ok : Sound station) (apart : Apart station) where
   kept-apart stop = stop-apart station apart
   kept-apart tick = tick-apart station ok apart
   kept-apart (hear octets memory assembly) = hear-apart (hear-cases station octets memory assembly)
-  kept-apart (ask memory turn output) = ask-apart memory turn output
+  kept-apart (ask memory turn output) = ask-apart (on-asking.ask-cases station memory turn output)
 
 -- areas do not overlap in any state that any list of calls with any arguments can leave since off
 pub apart : (station : Station) → Reachable station → Apart station

@@ -11,6 +11,8 @@ pub mod Asking
 pub mod Calls
 -- The outcomes of each call, which the theorems go by.
 pub mod HearCases
+pub mod AskCases
+pub mod TickCases
 -- Theorems.
 pub mod Acts
 pub mod Refusing

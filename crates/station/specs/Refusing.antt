@@ -11,7 +11,7 @@ use Rattle.frame.specs.declared.Fields.{Fields}
 use Rattle.frame.specs.declared.Refusal.{Refusal}
 use Rattle.frame.specs.declared.Refusal.the-variants as refusals
 use Rattle.reading.specs.Reading.{isStation}
-use Rattle.station.specs.Asking as asking
+use Rattle.station.specs.AskCases as on-asking
 use Rattle.station.specs.Calls.{Call, start, stop, tick, hear, ask, lent, lentAfter, after, refusedBy, taken, verdict, switchedVerdict, heardVerdict, askedVerdict}
 use Rattle.station.specs.HearCases.{EnterCases, off, begins, joins, passes, reads, lists, ignores, HearCases, refuses, turnsOff, gathers, heeds, hear-cases}
 use Rattle.station.specs.Hearing.{Hearing, accepted}
@@ -22,6 +22,7 @@ use Rattle.station.specs.declared.Heard.{Heard}
 use Rattle.station.specs.declared.Heard.the-variants as heard
 use Rattle.station.specs.declared.Station.{Station}
 use Rattle.station.specs.declared.Token.the-variants as tokens
+use Rattle.station.specs.Asking.{Asking}
 
 -- nothing is altered, or number 6 came before we participate and left just what stop leaves
 pub data Spared (before after : Station) (refusal : Refusal) : Type 0 where
@@ -79,26 +80,10 @@ hear-keeps refusal (gathers frame facts parts) e = absurd (not-taken e)
 hear-keeps refusal (heeds frame facts entered) e = absurd (not-taken (sym (entered-accepted entered) ∙ e))
 
 -- asking: what is left where the answer is a refusal
-ask-keeps : (station : Station) (memory turn output : List ℕ) (refusal : Refusal) →
-    askedVerdict (asking.askOf station memory turn output .answer) ≡ refusedBy refusal →
-    (asking.askOf station memory turn output .station ≡ station)
-    × (asking.askOf station memory turn output .turn ≡ turn)
-    × (asking.askOf station memory turn output .output ≡ output)
-ask-keeps station memory turn output refusal = by (asking.lentRight memory turn output) (asking.dueIn (station .phase) station)
-  where
-    result : Bool → Bool → asking.Asking
-    result lent due =
-        cond lent
-        (cond due
-        (asking.written station (asking.turnAfter (station .phase) station memory turn) output)
-        (asking.refused station turn output refusals.NotDue))
-        (asking.refused station turn output refusals.Buffer)
-
-    by : (lent due : Bool) → askedVerdict (result lent due .answer) ≡ refusedBy refusal →
-        (result lent due .station ≡ station) × (result lent due .turn ≡ turn) × (result lent due .output ≡ output)
-    by true true e = absurd (not-taken e)
-    by true false e = (refl, refl, refl)
-    by false due e = (refl, refl, refl)
+ask-keeps : {station : Station} {memory turn output : List ℕ} {result : Asking} (refusal : Refusal) → on-asking.AskCases station memory turn output result →
+    askedVerdict (result .answer) ≡ refusedBy refusal → (result .station ≡ station) × (result .turn ≡ turn) × (result .output ≡ output)
+ask-keeps refusal (on-asking.refuses other) e = (refl, refl, refl)
+ask-keeps refusal (on-asking.sends lent is sent) e = absurd (not-taken e)
 
 -- Every call that is refused leaves the state and every lent buffer as they were, but that number 6 before we participate leaves just what
 -- stop leaves.
@@ -120,5 +105,5 @@ refused-left station (hear octets memory assembly) refusal e =
     let kept = hear-keeps refusal (hear-cases station octets memory assembly) e in
     record { state = kept .0; buffers = ap₂ (λ (m a : List ℕ). octets ∷ m ∷ a ∷ []) (kept .1) (kept .2) }
 refused-left station (ask memory turn output) refusal e =
-    let kept = ask-keeps station memory turn output refusal e in
+    let kept = ask-keeps refusal (on-asking.ask-cases station memory turn output) e in
     record { state = same (kept .0); buffers = ap₂ (λ (t o : List ℕ). memory ∷ t ∷ o ∷ []) (kept .1) (kept .2) }

@@ -2,8 +2,8 @@
 -- joining can begin with another view, the last token destination heard. Assumes nothing.
 use mathlib.Core.Path.{_≡_, refl, subst}
 use mathlib.Core.Bool.{Bool, true, false, cond, not, _&&_, false≢true}
-use mathlib.Core.List.{List, [], _∷_}
-use Prim.Native.Nat.{ℕ, _+_, min}
+use mathlib.Core.List.{List}
+use Prim.Native.Nat.{ℕ, min}
 use native.Mathlib.Omega.{arith}
 use lib.Dec.{eqb, leb, ltb}
 use borrow.Author.Tests.{leb-true, leb-false}
@@ -12,23 +12,21 @@ use Rattle.frame.specs.Codes.{isToken}
 use Rattle.frame.specs.declared.Fields.{Fields}
 use Rattle.frame.specs.declared.Refusal.{Refusal}
 use Rattle.frame.specs.declared.Refusal.the-variants as refusals
-use Rattle.members.specs.Members.{numbersOf}
-use Rattle.panel.specs.Panel.{ticked}
 use Rattle.reading.specs.Reading.{isStation}
-use Rattle.station.specs.Asking as asking
+use Rattle.station.specs.AskCases as on-asking
 use Rattle.station.specs.Calls.{Call, start, stop, tick, hear, ask, after}
 use Rattle.station.specs.HearCases.{off, begins, joins, passes, reads, lists, ignores, HearCases, refuses, turnsOff, gathers, heeds, hear-cases}
 use Rattle.station.specs.Hearing.{knows, Hearing}
 use Rattle.station.specs.Reachable.{Sound}
-use Rattle.station.specs.Starting.{Switching, need, startedUp}
+use Rattle.station.specs.Starting.{Switching, need}
 use Rattle.station.specs.State.{isOff, isParticipating}
-use Rattle.station.specs.Ticking.{later, counted, fallsDue, watchEnded, watchEnds, tickedBy}
+use Rattle.station.specs.TickCases as on-tick
+use Rattle.station.specs.Ticking.{Ticking}
 use Rattle.station.specs.Token.{viewHeard}
 use Rattle.station.specs.ViewKept.{Known, known-ours, known-with, known-misses, next-known, smallest-known, missed-known}
-use Rattle.station.specs.Waits.{acceptanceTime, longestWatch}
-use Rattle.station.specs.declared.Phase.{Phase}
-use Rattle.station.specs.declared.Phase.the-variants.{Off, Listening, Startup, Joining, Participating}
+use Rattle.station.specs.declared.Phase.the-variants.{Joining, Participating}
 use Rattle.station.specs.declared.Station.{Station}
+use Rattle.station.specs.Asking.{Asking, isLast, nextStation}
 
 -- a participant's view is its own number or a listed one
 abbrev pub Seen : Station → Type 0
@@ -48,30 +46,17 @@ min-known P a b p q = by (leb a b) refl
     by false t = let h = leb-false a b t in let s : b ≡ min a b = omega arith in subst P s q
 
 module _ (station : Station) (ok : Sound station) (seen : Seen station) (elsewhere : ¬ (station .phase ≡ Joining)) where
-  started-seen : (numbers : List ℕ) → Seen (startedUp (station .own) (station .members) numbers)
-  started-seen [] = λ p. absurd (false≢true p)
-  started-seen (number ∷ rest) = λ p. smallest-known (ok .list)
-
-  tick-in : (phase : Phase) → station .phase ≡ phase → Seen (tickedBy phase station)
-  tick-in Off e = seen
-  tick-in Listening e = seen
-  tick-in Startup e = by (leb acceptanceTime (min acceptanceTime (station .elapsed .0 + 1)))
-    where
-      by : (test : Bool) → Seen
-          (cond test
-          (startedUp (station .own) (station .members) (numbersOf (station .members)))
-          (counted station (fallsDue station (station .elapsed) (later acceptanceTime (station .elapsed))) (later acceptanceTime (station .elapsed)) (station .waited) (station .panel)))
-      by true = started-seen (numbersOf (station .members))
-      by false = λ p. absurd (false≢true (rw e at p))
-  tick-in Joining e = absurd (elsewhere e)
-  tick-in Participating e = by (watchEnds station)
-    where
-      by : (test : Bool) → Seen
-          (cond test
-          (watchEnded station)
-          (counted station (station .own) (later longestWatch (station .elapsed)) (station .waited) (ticked (station .panel))))
-      by true = λ p. missed-known (ok .list) (station .view) (seen (rw e))
-      by false = seen
+  tick-seen : {result : Ticking} → on-tick.TickCases station result → Seen (result .station)
+  tick-seen (on-tick.off e) = seen
+  tick-seen (on-tick.listens e) = seen
+  tick-seen (on-tick.starts e t) = λ p. absurd (false≢true (rw e at p))
+  tick-seen (on-tick.lapses e t) = λ p. absurd (false≢true p)
+  tick-seen (on-tick.begins e t) = λ p. smallest-known (ok .list)
+  tick-seen (on-tick.givesUp e t) = absurd (elsewhere e)
+  tick-seen (on-tick.learns e t r) = absurd (elsewhere e)
+  tick-seen (on-tick.waits e t r) = absurd (elsewhere e)
+  tick-seen (on-tick.ends e t) = λ p. missed-known (ok .list) (station .view) (seen (rw e))
+  tick-seen (on-tick.runs e t) = seen
 
   -- the view after a token frame whose destination is known
   heard-known : (frame : Fields) → isParticipating (station .phase) ≡ true → (isToken (frame .code) ≡ true → knows station (frame .destination) ≡ true)
@@ -99,29 +84,17 @@ module _ (station : Station) (ok : Sound station) (seen : Seen station) (elsewhe
       λ p. known-with (station .own .number) (station .members) (frame .source) _ (station .view) (λ same l. refl) (seen p)
   hear-seen (heeds frame facts (ignores e)) = seen
 
-  sent-seen : (phase : Phase) → station .phase ≡ phase → Seen (asking.sentIn phase station)
-  sent-seen Off e = seen
-  sent-seen Listening e = λ p. absurd (false≢true p)
-  sent-seen Startup e = seen
-  sent-seen Joining e = absurd (elsewhere e)
-  sent-seen Participating e = λ p. by (asking.isLast station)
-    where
-      by : (last : Bool) → Known (station .own .number) (station .members) (cond last (asking.nextStation station) (station .view))
-      by true = next-known (ok .list) (station .own .number) (known-ours (station .own .number) (station .members))
-      by false = seen (rw e)
+  sent-seen : station .phase ≡ Participating → (last : Bool)
+      → Known (station .own .number) (station .members) (cond last (nextStation station) (station .view))
+  sent-seen e true = next-known (ok .list) (station .own .number) (known-ours (station .own .number) (station .members))
+  sent-seen e false = seen (rw e)
 
-  ask-seen : (memory turn output : List ℕ) → Seen (asking.askOf station memory turn output .station)
-  ask-seen memory turn output = by (asking.lentRight memory turn output) (asking.dueIn (station .phase) station)
-    where
-      by : (right due : Bool) → Seen
-          (cond right
-          (cond due
-          (asking.written station (asking.turnAfter (station .phase) station memory turn) output)
-          (asking.refused station turn output refusals.NotDue))
-          (asking.refused station turn output refusals.Buffer) .station)
-      by true true = sent-seen (station .phase) refl
-      by true false = seen
-      by false due = seen
+  ask-seen : {memory turn output : List ℕ} {result : Asking} → on-asking.AskCases station memory turn output result → Seen (result .station)
+  ask-seen (on-asking.refuses refusal) = seen
+  ask-seen (on-asking.sends lent is (on-asking.triggers e due)) = λ p. absurd (false≢true p)
+  ask-seen (on-asking.sends lent is (on-asking.requests e fallen)) = seen
+  ask-seen (on-asking.sends lent is (on-asking.begins e fallen)) = absurd (elsewhere e)
+  ask-seen (on-asking.sends lent is (on-asking.passes e held placed)) = λ p. sent-seen e (isLast station)
 
   -- every call keeps it, in every phase but joining
   pub seen-kept : (call : Call) → Seen (after station call)
@@ -130,6 +103,6 @@ module _ (station : Station) (ok : Sound station) (seen : Seen station) (elsewhe
       (need-seen (isStation (own .number) && ltb 0 (own .watch .0)) refusals.Address station _ seen
       (need-seen (inRange (own .areas)) refusals.Area station _ seen (λ p. absurd (false≢true p))))
   seen-kept stop = need-seen (not (isOff (station .phase))) refusals.NotDue station _ seen (λ p. absurd (false≢true p))
-  seen-kept tick = tick-in (station .phase) refl
+  seen-kept tick = tick-seen (on-tick.tick-cases station)
   seen-kept (hear octets memory assembly) = hear-seen (hear-cases station octets memory assembly)
-  seen-kept (ask memory turn output) = ask-seen memory turn output
+  seen-kept (ask memory turn output) = ask-seen (on-asking.ask-cases station memory turn output)
