@@ -10,7 +10,9 @@ use Rattle.panel.specs.Panel.{blank, ticked, taken, figureOf}
 use Rattle.panel.specs.declared.Figure.the-variants.{Nothing}
 use Rattle.panel.specs.declared.Panel.{Panel}
 use Rattle.reading.specs.Reading.{isStation}
+use Rattle.station.specs.AskCases.{ask-cases}
 use Rattle.station.specs.Calls.{Call, start, stop, tick, hear, ask, after}
+use Rattle.station.specs.HearCases.{hear-cases}
 use Rattle.station.specs.History.{Step, stepOf, stepsOn, history, stateAfter, participates, isTick, passes, isTaking, clock, noted, takings, lastGap, saidSince, figureSaid}
 use Rattle.station.specs.PanelAsked.{ask-moves}
 use Rattle.station.specs.PanelCounts.{Counts, counts-tick, counts-taken, counts-shown}
@@ -19,6 +21,7 @@ use Rattle.station.specs.PanelMoves.{Room, Moved, Moves, leave}
 use Rattle.station.specs.PanelTicked.{tick-moves, need-moves}
 use Rattle.station.specs.Showing.{figureShown}
 use Rattle.station.specs.State.{isOff, isParticipating, never}
+use Rattle.station.specs.TickCases.{tick-cases}
 use Rattle.station.specs.declared.Phase.{Phase}
 use Rattle.station.specs.declared.Phase.the-variants.{Off, Listening, Startup, Joining, Participating}
 use Rattle.station.specs.declared.Station.{Station}
@@ -30,9 +33,9 @@ moves station (start settings) =
     (need-moves station (isStation (settings .number) && ltb 0 (settings .watch .0)) refusals.Address _
     (need-moves station (inRange (settings .areas)) refusals.Area _ (leave refl (λ clear. refl))))
 moves station stop = need-moves station (not (isOff (station .phase))) refusals.NotDue _ (leave refl (λ clear. refl))
-moves station tick = tick-moves (station .phase) station
-moves station (hear octets memory assembly) = hear-moves (station .phase) station octets memory assembly
-moves station (ask memory turn output) = ask-moves (station .phase) station memory turn output
+moves station tick = tick-moves (tick-cases station)
+moves station (hear octets memory assembly) = hear-moves (hear-cases station octets memory assembly)
+moves station (ask memory turn output) = ask-moves (ask-cases station memory turn output)
 
 -- what holds of a participant after these steps: its counters are those of the history, and a block of its turn is left to send
 record Agrees (steps : List Step) (station : Station) : Type 0 where
