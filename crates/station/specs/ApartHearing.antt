@@ -1,4 +1,4 @@
--- Hearing and asking keep the areas apart; so they are apart in every state that calls can leave. Assumes nothing.
+-- Every call keeps the areas apart; so they are apart in every state that calls can leave. Assumes nothing.
 use mathlib.Core.Path.{_≡_, refl, sym, _∙_}
 use mathlib.Core.Bool.{Bool, true, false, cond, false≢true}
 use mathlib.Core.List.{List}
@@ -13,7 +13,7 @@ use Rattle.members.specs.declared.Members.{Members}
 use Rattle.reading.specs.Reading.{isStation}
 use Rattle.writing.specs.Writing.{noAreas}
 use Rattle.station.specs.Apart.{Disjoint, Clear, Apart, disjoint-misses, clear-misses, disjoint-listing, clear-listing}
-use Rattle.station.specs.ApartTicking.{fresh-apart, start-apart, stop-apart, tick-apart, station-from}
+use Rattle.station.specs.ApartTicking.{fresh-apart, tick-apart, station-from}
 use Rattle.station.specs.AskCases as on-asking
 use Rattle.station.specs.Calls.{Call, start, stop, tick, hear, ask, after}
 use Rattle.station.specs.HearCases.{off, begins, joins, passes, reads, lists, ignores, awaits-on, HearCases, refuses, turnsOff, gathers, heeds, hear-cases}
@@ -23,8 +23,9 @@ use Rattle.station.specs.KeepsEntering.{same-fallen}
 use Rattle.station.specs.Reachable.{Reachable, unstarted, called, Sound}
 use Rattle.station.specs.Starting.{requestFallen, oursDue, joinedBy}
 use Rattle.station.specs.State.{fresh}
+use Rattle.station.specs.SwitchCases.{switched-to, start-cases, stop-cases}
 use Rattle.station.specs.Waits.{numberWait}
-use Rattle.station.specs.declared.Phase.the-variants.{Off, Startup, Joining}
+use Rattle.station.specs.declared.Phase.the-variants.{Off, Startup, Joining, Listening}
 use Rattle.station.specs.declared.Station.{Station}
 use Rattle.station.specs.Asking.{Asking}
 
@@ -92,8 +93,8 @@ module _ (station : Station) (ok : Sound station) (apart : Apart station) where
 
   -- every call keeps the areas apart
   pub kept-apart : (call : Call) → Apart (after station call)
-  kept-apart (start settings) = start-apart station settings apart
-  kept-apart stop = stop-apart station apart
+  kept-apart (start own) = switched-to Apart (start-cases station own) apart (λ starts. fresh-apart Listening own)
+  kept-apart stop = switched-to Apart (stop-cases station) apart (λ on. fresh-apart Off _)
   kept-apart tick = tick-apart station ok apart
   kept-apart (hear octets memory assembly) = hear-apart (hear-cases station octets memory assembly)
   kept-apart (ask memory turn output) = ask-apart (on-asking.ask-cases station memory turn output)

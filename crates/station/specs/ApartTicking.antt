@@ -1,13 +1,10 @@
--- Start, stop and a tick keep the areas apart. Assumes nothing.
+-- A tick keeps the areas apart. Assumes nothing.
 use mathlib.Core.Path.{_≡_, refl, sym, _∙_}
-use mathlib.Core.Bool.{Bool, true, false, cond, not, _&&_, false≢true}
+use mathlib.Core.Bool.{Bool, true, false, cond, _&&_, false≢true}
 use Prim.Native.Nat.{ℕ, _+_, _≤_, min}
 use native.Mathlib.Omega.{arith}
 use lib.Dec.{eqb, leb, ltb}
 use borrow.Author.Tests.{leb-true, ltb-false, le-leb}
-use Rattle.area.specs.Areas.{inRange}
-use Rattle.frame.specs.declared.Refusal.{Refusal}
-use Rattle.frame.specs.declared.Refusal.the-variants as refusals
 use Rattle.laws.specs.Tests.{both, first, second}
 use Rattle.members.specs.Listing.{bare, overlapsListed}
 use Rattle.panel.specs.declared.Panel.{Panel}
@@ -15,32 +12,18 @@ use Rattle.reading.specs.Reading.{isStation}
 use Rattle.units.specs.declared.Ticks.{Ticks}
 use Rattle.station.specs.Apart.{Apart, no-overlap, disjoint-none, clear-none, disjoint-missed, clear-missed}
 use Rattle.station.specs.Reachable.{Sound}
-use Rattle.station.specs.Starting.{Switching, need, startOf, stopOf, requestFallen}
-use Rattle.station.specs.State.{isOff, fresh}
+use Rattle.station.specs.Starting.{requestFallen}
+use Rattle.station.specs.State.{fresh}
 use Rattle.station.specs.TickCases.{TickCases, off, listens, starts, lapses, begins, givesUp, learns, waits, ends, runs, tick-cases}
 use Rattle.station.specs.Ticking.{later, counted, fallsDue, joiningWait, tickOf, Ticking}
 use Rattle.station.specs.Waits.{detectionWait, acceptanceTime, numberWait}
 use Rattle.station.specs.declared.Phase.{Phase}
-use Rattle.station.specs.declared.Phase.the-variants.{Off, Listening, Joining}
+use Rattle.station.specs.declared.Phase.the-variants.{Listening, Joining}
 use Rattle.station.specs.declared.Settings.{Settings}
 use Rattle.station.specs.declared.Station.{Station}
 
 pub fresh-apart : (phase : Phase) (own : Settings) → Apart (fresh phase own)
 fresh-apart phase own = record { listed = disjoint-none; ours = λ e. clear-none (own .areas) }
-
-need-apart : (test : Bool) (refusal : Refusal) (station : Station) (rest : Switching) → Apart station → Apart (rest .station)
-    → Apart (need test refusal station rest .station)
-need-apart true refusal station rest apart more = more
-need-apart false refusal station rest apart more = apart
-
-pub start-apart : (station : Station) (own : Settings) → Apart station → Apart (startOf station own .station)
-start-apart station own apart =
-    need-apart (isOff (station .phase)) refusals.NotDue station _ apart
-    (need-apart (isStation (own .number) && ltb 0 (own .watch .0)) refusals.Address station _ apart
-    (need-apart (inRange (own .areas)) refusals.Area station _ apart (fresh-apart Listening own)))
-
-pub stop-apart : (station : Station) → Apart station → Apart (stopOf station .station)
-stop-apart station apart = need-apart (not (isOff (station .phase))) refusals.NotDue station _ apart (fresh-apart Off _)
 
 -- numbers 1 to 254
 pub station-from : (number : ℕ) → isStation number ≡ true → 1 ≤ number

@@ -10,6 +10,7 @@ pub mod Hearing
 pub mod Asking
 pub mod Calls
 -- The outcomes of each call, which the theorems go by.
+pub mod SwitchCases
 pub mod HearCases
 pub mod AskCases
 pub mod TickCases

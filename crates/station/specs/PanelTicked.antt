@@ -1,14 +1,12 @@
--- What a tick, a start and a stop do to the panel. Assumes nothing.
+-- What a tick does to the panel. Assumes nothing.
 use mathlib.Core.Path.{refl}
-use mathlib.Core.Bool.{Bool, true, false}
-use Rattle.frame.specs.declared.Refusal.{Refusal}
+use mathlib.Core.Bool.{true, false}
 use Rattle.members.specs.Members.{smallest}
-use Rattle.station.specs.Starting.{Switching, need}
 use Rattle.station.specs.TickCases.{TickCases, off, listens, starts, lapses, begins, givesUp, learns, waits, ends, runs}
 use Rattle.station.specs.Ticking.{later, Ticking}
 use Rattle.station.specs.Waits.{longestWatch}
 use Rattle.station.specs.declared.Station.{Station}
-use Rattle.station.specs.PanelMoves.{Moves, leave, stays, begin, restarts, only-counts}
+use Rattle.station.specs.PanelMoves.{Moves, leave, begin, restarts, only-counts}
 
 pub tick-moves : {station : Station} {result : Ticking} → TickCases station result → Moves station true false (result .station)
 tick-moves (off e) = leave (rw e) (λ clear. clear (rw e))
@@ -21,9 +19,3 @@ tick-moves (learns e t r) = leave (rw e) (λ clear. clear (rw e))
 tick-moves (waits e t r) = leave (rw e) (λ clear. clear (rw e))
 tick-moves {station} (ends e t) = restarts station (rw e) _ _ _ true
 tick-moves {station} (runs e t) = only-counts station (rw e) (later longestWatch (station .elapsed))
-
--- start and stop, which a test may refuse
-pub need-moves : (before : Station) (test : Bool) (refusal : Refusal) (rest : Switching) →
-    Moves before false false (rest .station) → Moves before false false (need test refusal before rest .station)
-need-moves before true refusal rest more = more
-need-moves before false refusal rest more = stays before

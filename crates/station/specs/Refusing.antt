@@ -1,22 +1,20 @@
 -- Demand 1: "a numbered refusal changes no buffer, and no station state except in the one case that the table names". Assumes nothing.
 use mathlib.Core.Path.{_≡_, refl, ap₂, sym, _∙_}
-use mathlib.Core.Bool.{Bool, true, false, cond, not, _&&_}
+use mathlib.Core.Bool.{Bool, true, false, cond, _&&_}
 use mathlib.Core.List.{List, [], _∷_}
 use Prim.Native.Nat.{ℕ}
 use native.Mathlib.Omega.{arith}
-use lib.Dec.{ltb}
-use Rattle.area.specs.Areas.{inRange}
 use Rattle.frame.specs.Codes.{isCyclic}
 use Rattle.frame.specs.declared.Fields.{Fields}
 use Rattle.frame.specs.declared.Refusal.{Refusal}
 use Rattle.frame.specs.declared.Refusal.the-variants as refusals
-use Rattle.reading.specs.Reading.{isStation}
 use Rattle.station.specs.AskCases as on-asking
 use Rattle.station.specs.Calls.{Call, start, stop, tick, hear, ask, lent, lentAfter, after, refusedBy, taken, verdict, switchedVerdict, heardVerdict, askedVerdict}
 use Rattle.station.specs.HearCases.{EnterCases, off, begins, joins, passes, reads, lists, ignores, HearCases, refuses, turnsOff, gathers, heeds, hear-cases}
 use Rattle.station.specs.Hearing.{Hearing, accepted}
-use Rattle.station.specs.Starting.{Switching, need}
+use Rattle.station.specs.Starting.{Switching}
 use Rattle.station.specs.State.{isOff, isParticipating, stopped}
+use Rattle.station.specs.SwitchCases as on-switching
 use Rattle.station.specs.declared.Data.the-variants.{Dropped}
 use Rattle.station.specs.declared.Heard.{Heard}
 use Rattle.station.specs.declared.Heard.the-variants as heard
@@ -38,12 +36,11 @@ pub record Left (station : Station) (call : Call) (refusal : Refusal) : Type 0 w
 not-taken : {refusal : Refusal} → taken ≡ refusedBy refusal → ⊥
 not-taken e = let z : _≡_ {A = ℕ} 0 1 = cc in omega arith
 
--- a test that refuses alters nothing
-need-left : (test : Bool) (other refusal : Refusal) (station : Station) (rest : Switching)
-    → (switchedVerdict (rest .answer) ≡ refusedBy refusal → rest .station ≡ station)
-    → switchedVerdict (need test other station rest .answer) ≡ refusedBy refusal → need test other station rest .station ≡ station
-need-left true other refusal station rest more e = more e
-need-left false other refusal station rest more e = refl
+-- a start or a stop: what is left where the answer is a refusal
+switch-keeps : {station left : Station} {Reason : Type 0} {result : Switching} (refusal : Refusal) → on-switching.SwitchCases station left Reason result →
+    switchedVerdict (result .answer) ≡ refusedBy refusal → result .station ≡ station
+switch-keeps refusal (on-switching.refuses other) e = refl
+switch-keeps refusal (on-switching.does reason) e = absurd (not-taken e)
 
 -- a frame that is accepted is not refused
 pub accepted-taken : (station : Station) (frame : Fields) (octets memory assembly : List ℕ)
@@ -88,18 +85,9 @@ ask-keeps refusal (on-asking.sends lent is sent) e = absurd (not-taken e)
 -- Every call that is refused leaves the state and every lent buffer as they were, but that number 6 before we participate leaves just what
 -- stop leaves.
 pub refused-left : (station : Station) (call : Call) (refusal : Refusal) → verdict station call ≡ refusedBy refusal → Left station call refusal
-refused-left station (start settings) refusal e = record {
-  state = same (
-      need-left (isOff (station .phase)) refusals.NotDue refusal station _
-      (need-left (isStation (settings .number) && ltb 0 (settings .watch .0)) refusals.Address refusal station _
-      (need-left (inRange (settings .areas)) refusals.Area refusal station _ (λ d. absurd (not-taken d)))) e
-      );
-  buffers = refl;
-}
-refused-left station stop refusal e = record {
-  state = same (need-left (not (isOff (station .phase))) refusals.NotDue refusal station _ (λ d. absurd (not-taken d)) e);
-  buffers = refl;
-}
+refused-left station (start settings) refusal e =
+    record { state = same (switch-keeps refusal (on-switching.start-cases station settings) e); buffers = refl }
+refused-left station stop refusal e = record { state = same (switch-keeps refusal (on-switching.stop-cases station) e); buffers = refl }
 refused-left station tick refusal e = absurd (not-taken e)
 refused-left station (hear octets memory assembly) refusal e =
     let kept = hear-keeps refusal (hear-cases station octets memory assembly) e in

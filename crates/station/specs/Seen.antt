@@ -1,25 +1,21 @@
 -- A participant's view is its own number or a listed one, if it was so before: every call keeps this, but that who begins to participate from
 -- joining can begin with another view, the last token destination heard. Assumes nothing.
 use mathlib.Core.Path.{_≡_, refl, subst}
-use mathlib.Core.Bool.{Bool, true, false, cond, not, _&&_, false≢true}
+use mathlib.Core.Bool.{Bool, true, false, cond, false≢true}
 use mathlib.Core.List.{List}
 use Prim.Native.Nat.{ℕ, min}
 use native.Mathlib.Omega.{arith}
-use lib.Dec.{eqb, leb, ltb}
+use lib.Dec.{eqb, leb}
 use borrow.Author.Tests.{leb-true, leb-false}
-use Rattle.area.specs.Areas.{inRange}
 use Rattle.frame.specs.Codes.{isToken}
 use Rattle.frame.specs.declared.Fields.{Fields}
-use Rattle.frame.specs.declared.Refusal.{Refusal}
-use Rattle.frame.specs.declared.Refusal.the-variants as refusals
-use Rattle.reading.specs.Reading.{isStation}
 use Rattle.station.specs.AskCases as on-asking
 use Rattle.station.specs.Calls.{Call, start, stop, tick, hear, ask, after}
 use Rattle.station.specs.HearCases.{off, begins, joins, passes, reads, lists, ignores, HearCases, refuses, turnsOff, gathers, heeds, hear-cases}
 use Rattle.station.specs.Hearing.{knows, Hearing}
 use Rattle.station.specs.Reachable.{Sound}
-use Rattle.station.specs.Starting.{Switching, need}
-use Rattle.station.specs.State.{isOff, isParticipating}
+use Rattle.station.specs.State.{isParticipating}
+use Rattle.station.specs.SwitchCases.{switched-to, start-cases, stop-cases}
 use Rattle.station.specs.TickCases as on-tick
 use Rattle.station.specs.Ticking.{Ticking}
 use Rattle.station.specs.Token.{viewHeard}
@@ -31,11 +27,6 @@ use Rattle.station.specs.Asking.{Asking, isLast, nextStation}
 -- a participant's view is its own number or a listed one
 abbrev pub Seen : Station → Type 0
 Seen station = isParticipating (station .phase) ≡ true → Known (station .own .number) (station .members) (station .view)
-
-need-seen : (test : Bool) (refusal : Refusal) (station : Station) (rest : Switching) → Seen station → Seen (rest .station)
-    → Seen (need test refusal station rest .station)
-need-seen true refusal station rest seen more = more
-need-seen false refusal station rest seen more = seen
 
 -- the smaller of two numbers is one of them
 min-known : (P : ℕ → Type 0) (a b : ℕ) → P a → P b → P (min a b)
@@ -98,11 +89,8 @@ module _ (station : Station) (ok : Sound station) (seen : Seen station) (elsewhe
 
   -- every call keeps it, in every phase but joining
   pub seen-kept : (call : Call) → Seen (after station call)
-  seen-kept (start own) =
-      need-seen (isOff (station .phase)) refusals.NotDue station _ seen
-      (need-seen (isStation (own .number) && ltb 0 (own .watch .0)) refusals.Address station _ seen
-      (need-seen (inRange (own .areas)) refusals.Area station _ seen (λ p. absurd (false≢true p))))
-  seen-kept stop = need-seen (not (isOff (station .phase))) refusals.NotDue station _ seen (λ p. absurd (false≢true p))
+  seen-kept (start own) = switched-to Seen (start-cases station own) seen (λ starts p. absurd (false≢true p))
+  seen-kept stop = switched-to Seen (stop-cases station) seen (λ on p. absurd (false≢true p))
   seen-kept tick = tick-seen (on-tick.tick-cases station)
   seen-kept (hear octets memory assembly) = hear-seen (hear-cases station octets memory assembly)
   seen-kept (ask memory turn output) = ask-seen (on-asking.ask-cases station memory turn output)

@@ -2,19 +2,15 @@
 -- data of blocks 1 to the last of its source, in order. Assumes nothing.
 use mathlib.Core.Path.{_≡_, refl, sym, subst}
 use mathlib.Core.List.{List, [], _∷_}
-use mathlib.Core.Bool.{Bool, true, false, cond, not, _&&_, false≢true}
+use mathlib.Core.Bool.{Bool, true, false, cond, _&&_, false≢true}
 use Prim.Native.Nat.{ℕ, _+_, _≤_, _<_}
 use native.Mathlib.Omega.{arith}
-use lib.Dec.{eqb, ltb}
+use lib.Dec.{eqb}
 use lib.ListN.{getD, take}
 use borrow.Author.Tests.{ne-eqb}
-use Rattle.area.specs.Areas.{inRange}
 use Rattle.block.specs.Blocks.{octetsOf}
 use Rattle.frame.specs.declared.Fields.{Fields}
-use Rattle.frame.specs.declared.Refusal.{Refusal}
-use Rattle.frame.specs.declared.Refusal.the-variants as refusals
 use Rattle.members.specs.Members.{entryOf, isListed, strikes}
-use Rattle.reading.specs.Reading.{isStation}
 use Rattle.station.specs.Answers.{dataOf}
 use Rattle.station.specs.ApartTicking.{station-from}
 use Rattle.station.specs.AskCases as on-asking
@@ -26,22 +22,17 @@ use Rattle.station.specs.Hearing.{hearOf}
 use Rattle.station.specs.KeepsAsking.{sound}
 use Rattle.station.specs.Memory.{Whole}
 use Rattle.station.specs.Reachable.{Typed, Reachable, unstarted, called}
-use Rattle.station.specs.Starting.{Switching, need}
-use Rattle.station.specs.State.{isOff, never}
+use Rattle.station.specs.Starting.{Switching}
+use Rattle.station.specs.State.{never, nothing}
+use Rattle.station.specs.SwitchCases.{SwitchCases, switched-to, start-cases, stop-cases}
 use Rattle.station.specs.TickCases as on-tick
 use Rattle.station.specs.Ticking.{Ticking}
 use Rattle.station.specs.TurnJoined.{turn-joined}
 use Rattle.station.specs.declared.Data.the-variants.{Written}
 use Rattle.station.specs.declared.Heard.the-variants as answers
-use Rattle.station.specs.declared.Settings.{Settings}
 use Rattle.station.specs.declared.Station.{Station}
 use Rattle.station.specs.declared.Token.{Token}
 use Rattle.station.specs.Asking.{Asking}
-
-need-gathers : {heard : List (List ℕ)} (test : Bool) (refusal : Refusal) (station : Station) (rest : Switching) (assembly : List ℕ) → Gathers heard (station .gathering) assembly
-    → Gathers heard (rest .station .gathering) assembly → Gathers heard (need test refusal station rest .station .gathering) assembly
-need-gathers true refusal station rest assembly p q = q
-need-gathers false refusal station rest assembly p q = p
 
 module _ {heard : List (List ℕ)} (station : Station) (assembly : List ℕ) (g : Gathers heard (station .gathering) assembly) where
   ended-gathers : (struck : Bool) → Gathers heard (cond struck (without (station .view) (station .gathering)) (station .gathering)) assembly
@@ -68,14 +59,9 @@ module _ {heard : List (List ℕ)} (station : Station) (assembly : List ℕ) (g 
   ask-gathers (on-asking.sends lent is (on-asking.begins e fallen)) = gathers-nothing assembly
   ask-gathers (on-asking.sends lent is (on-asking.passes e held placed)) = g
 
-  start-gathers : (own : Settings) → Gathers heard (after station (start own) .gathering) assembly
-  start-gathers own =
-      need-gathers (isOff (station .phase)) refusals.NotDue station _ assembly g
-      (need-gathers (isStation (own .number) && ltb 0 (own .watch .0)) refusals.Address station _ assembly g
-      (need-gathers (inRange (own .areas)) refusals.Area station _ assembly g (gathers-nothing assembly)))
-
-  stop-gathers : Gathers heard (after station stop .gathering) assembly
-  stop-gathers = need-gathers (not (isOff (station .phase))) refusals.NotDue station _ assembly g (gathers-nothing assembly)
+  switch-gathers : {left : Station} {Reason : Type 0} {result : Switching} → SwitchCases station left Reason result → left .gathering ≡ nothing
+      → Gathers heard (result .station .gathering) assembly
+  switch-gathers cases e = switched-to (λ (s : Station). Gathers heard (s .gathering) assembly) cases g (λ reason. rw e (gathers-nothing assembly))
 
 -- a call that borrows no assembly buffer
 abbrev pub hearsNothing : Call → Bool
@@ -101,8 +87,8 @@ lending-reached (calls before call typed other) = called call (lending-reached b
 
 call-gathers : {heard : List (List ℕ)} (station : Station) (assembly : List ℕ) (call : Call) → hearsNothing call ≡ true → Gathers heard (station .gathering) assembly
     → Gathers heard (after station call .gathering) assembly
-call-gathers station assembly (start settings) e g = start-gathers station assembly g settings
-call-gathers station assembly stop e g = stop-gathers station assembly g
+call-gathers station assembly (start settings) e g = switch-gathers station assembly g (start-cases station settings) refl
+call-gathers station assembly stop e g = switch-gathers station assembly g (stop-cases station) refl
 call-gathers station assembly tick e g = tick-gathers station assembly g (on-tick.tick-cases station)
 call-gathers station assembly (hear octets memory lent) e g = absurd (false≢true e)
 call-gathers station assembly (ask memory turn output) e g = ask-gathers station assembly g (on-asking.ask-cases station memory turn output)
