@@ -14,25 +14,8 @@ use Rattle.station.specs.State.{holds, begun}
 use Rattle.station.specs.Ticking.{counted}
 use Rattle.station.specs.Token.{restarted, takes}
 use Rattle.station.specs.declared.Gathering.{Gathering}
-use Rattle.station.specs.declared.Phase.{Phase}
 use Rattle.station.specs.declared.Settings.{Settings}
 use Rattle.station.specs.declared.Station.{Station}
-
--- a station with its phase written out
-abbrev pub in-phase : Phase → Station → Station
-in-phase phase station = record {
-  phase = phase;
-  own = station .own;
-  members = station .members;
-  elapsed = station .elapsed;
-  waited = station .waited;
-  rounds = station .rounds;
-  sent = station .sent;
-  view = station .view;
-  block = station .block;
-  gathering = station .gathering;
-  panel = station .panel;
-}
 
 -- a participant has a block of its turn left to send
 abbrev pub Room : Station → Type 0
