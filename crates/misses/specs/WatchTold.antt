@@ -8,7 +8,6 @@ use native.Mathlib.Omega.{arith}
 use lib.Dec.{leb}
 use borrow.Author.Tests.{leb-false}
 use Rattle.frame.specs.Codes.{isCyclic}
-use Rattle.frame.specs.declared.Code.{Code}
 use Rattle.reading.specs.Reading.{readOf}
 use Rattle.round_trip.specs.Accepted.{reads}
 use Rattle.station.specs.AskCases as on-asking
@@ -23,7 +22,6 @@ use Rattle.station.specs.State.{never}
 use Rattle.station.specs.SwitchCases.{switched-to, start-cases, stop-cases}
 use Rattle.station.specs.TickCases as on-tick
 use Rattle.station.specs.Ticking.{watchEnds, Ticking}
-use Rattle.station.specs.declared.Phase.{Phase}
 use Rattle.station.specs.declared.Station.{Station}
 use Rattle.station.specs.Asking.{Asking}
 use Rattle.misses.specs.MissHistory.{isUnrefused, readsAs, hears}
@@ -72,14 +70,6 @@ tick-runs {station} ok (on-tick.runs e t) =
     let below = leb-false _ (station .elapsed .0 + 1) t in
     goes (rw (e, ← same-end station, t) (omega arith))
 
--- a frame that no rule names is no cyclic one
-unnamed-plain : {phase : Phase} {code : Code} → on-hearing.Unnamed phase code → isCyclic code ≡ false
-unnamed-plain on-hearing.listening-request = refl
-unnamed-plain on-hearing.startup-trigger = refl
-unnamed-plain on-hearing.joining-request = refl
-unnamed-plain on-hearing.joining-trigger = refl
-unnamed-plain on-hearing.participating-trigger = refl
-
 hear-runs : {station : Station} {octets memory assembly : List ℕ} {result : Hearing} → on-hearing.HearCases station octets memory assembly result
     → Runs station
     (not (participates station) || ((isUnrefused (heardVerdict (result .answer)) && readsAs (λ frame. isCyclic (frame .code)) (readOf octets)) || false))
@@ -94,7 +84,7 @@ hear-runs (on-hearing.heeds frame facts (on-hearing.passes e c)) = out (on-heari
 hear-runs (on-hearing.heeds frame facts (on-hearing.reads e c)) = out refl
 hear-runs {station} (on-hearing.heeds frame facts (on-hearing.lists e c)) =
     rw (reads (on-hearing.whole-of facts), c) (record { run = still station .run })
-hear-runs {station} (on-hearing.heeds frame facts (on-hearing.ignores e)) = rw (reads (on-hearing.whole-of facts), unnamed-plain e) (still station)
+hear-runs {station} (on-hearing.heeds frame facts (on-hearing.ignores e)) = rw (reads (on-hearing.whole-of facts), on-hearing.unnamed-plain e) (still station)
 
 ask-runs : {station : Station} {memory turn output : List ℕ} {result : Asking} → on-asking.AskCases station memory turn output result
     → Runs station (not (participates station) || isUnrefused (askedVerdict (result .answer))) false (result .station)

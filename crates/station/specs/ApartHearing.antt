@@ -13,13 +13,14 @@ use Rattle.members.specs.declared.Members.{Members}
 use Rattle.reading.specs.Reading.{isStation}
 use Rattle.writing.specs.Writing.{noAreas}
 use Rattle.station.specs.Apart.{Disjoint, Clear, Apart, disjoint-misses, clear-misses, disjoint-listing, clear-listing}
-use Rattle.station.specs.ApartTicking.{fresh-apart, tick-apart, station-from}
+use Rattle.station.specs.ApartTicking.{fresh-apart, tick-apart}
 use Rattle.station.specs.AskCases as on-asking
 use Rattle.station.specs.Calls.{Call, start, stop, tick, hear, ask, after}
 use Rattle.station.specs.HearCases.{off, begins, joins, passes, reads, lists, ignores, awaits-on, HearCases, refuses, turnsOff, gathers, heeds, hear-cases}
 use Rattle.station.specs.Hearing.{requested, Hearing}
 use Rattle.station.specs.KeepsAsking.{sound}
 use Rattle.station.specs.KeepsEntering.{same-fallen}
+use Rattle.station.specs.KeepsStarting.{station-from}
 use Rattle.station.specs.Reachable.{Reachable, unstarted, called, Sound}
 use Rattle.station.specs.Starting.{requestFallen, oursDue, joinedBy}
 use Rattle.station.specs.State.{fresh}

@@ -1,16 +1,16 @@
 -- A tick keeps the areas apart. Assumes nothing.
 use mathlib.Core.Path.{_≡_, refl, sym, _∙_}
 use mathlib.Core.Bool.{Bool, true, false, cond, _&&_, false≢true}
-use Prim.Native.Nat.{ℕ, _+_, _≤_, min}
+use Prim.Native.Nat.{_+_, _≤_, min}
 use native.Mathlib.Omega.{arith}
 use lib.Dec.{eqb, leb, ltb}
 use borrow.Author.Tests.{leb-true, ltb-false, le-leb}
 use Rattle.laws.specs.Tests.{both, first, second}
 use Rattle.members.specs.Listing.{bare, overlapsListed}
 use Rattle.panel.specs.declared.Panel.{Panel}
-use Rattle.reading.specs.Reading.{isStation}
 use Rattle.units.specs.declared.Ticks.{Ticks}
 use Rattle.station.specs.Apart.{Apart, no-overlap, disjoint-none, clear-none, disjoint-missed, clear-missed}
+use Rattle.station.specs.KeepsStarting.{station-from, station-to}
 use Rattle.station.specs.Reachable.{Sound}
 use Rattle.station.specs.Starting.{requestFallen}
 use Rattle.station.specs.State.{fresh}
@@ -24,13 +24,6 @@ use Rattle.station.specs.declared.Station.{Station}
 
 pub fresh-apart : (phase : Phase) (own : Settings) → Apart (fresh phase own)
 fresh-apart phase own = record { listed = disjoint-none; ours = λ e. clear-none (own .areas) }
-
--- numbers 1 to 254
-pub station-from : (number : ℕ) → isStation number ≡ true → 1 ≤ number
-station-from number e = leb-true 1 number (first (leb 1 number) (leb number 254) e)
-
-pub station-to : (number : ℕ) → isStation number ≡ true → number ≤ 254
-station-to number e = leb-true number 254 (second (leb 1 number) (leb number 254) e)
 
 module _ (station : Station) (ok : Sound station) (apart : Apart station) where
   -- our own settings with both sizes 0

@@ -18,9 +18,10 @@ use Rattle.station.specs.Data.{sameAreas, isNext}
 use Rattle.station.specs.Gathers.{acceptedAfter, Parts, more, Gathers, gathers-nothing, before-next, gathers-without}
 use Rattle.station.specs.HearCases.{FromMember, writes, keeps, drops, off, begins, joins, passes, reads, lists, ignores, awaits-outside, HearCases, refuses, turnsOff, gathers, heeds, whole-of, hear-cases}
 use Rattle.station.specs.Hearing.{Hearing, hearOf}
+use Rattle.station.specs.KeepsEntering.{same-octets}
 use Rattle.station.specs.Reachable.{Sound}
 use Rattle.station.specs.State.{isParticipating}
-use Rattle.station.specs.TurnJoined.{data-long, taken-through, same-octets}
+use Rattle.station.specs.TurnJoined.{data-long, taken-through}
 use Rattle.station.specs.TurnWritten.{assembly-long}
 use Rattle.station.specs.declared.Station.{Station}
 

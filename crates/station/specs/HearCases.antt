@@ -134,6 +134,13 @@ pub lists-on : {phase : Phase} → Lists phase → isOff phase ≡ false
 lists-on startup-lists = refl
 lists-on participant-lists = refl
 
+pub unnamed-plain : {phase : Phase} {code : Code} → Unnamed phase code → isCyclic code ≡ false
+unnamed-plain listening-request = refl
+unnamed-plain startup-trigger = refl
+unnamed-plain joining-request = refl
+unnamed-plain joining-trigger = refl
+unnamed-plain participating-trigger = refl
+
 module _ (station : Station) (octets memory assembly : List ℕ) where
   gather-cases : (frame : Fields)
       → GatherCases station frame octets memory assembly (gathered station frame (dataOf octets frame) assembly memory)

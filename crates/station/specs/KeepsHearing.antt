@@ -1,6 +1,6 @@
 -- Hearing a frame keeps what holds in every state. Assumes nothing.
 use mathlib.Core.Path.{_≡_, sym}
-use mathlib.Core.Bool.{false, false≢true}
+use mathlib.Core.Bool.{false, false≢true, true}
 use mathlib.Core.List.{List}
 use Prim.Native.Nat.{ℕ, _<_}
 use native.Mathlib.Omega.{arith}
@@ -10,10 +10,11 @@ use borrow.Author.Tests.{eqb-false}
 use Rattle.block.specs.Blocks.{blocksOf}
 use Rattle.frame.specs.declared.Fields.{Fields}
 use Rattle.members.specs.Members.{entryOf, cleared}
+use Rattle.reading.specs.Reading.{isStation}
 use Rattle.station.specs.Data.{Gathered}
 use Rattle.station.specs.HearCases.{FromMember, GatherCases, writes, keeps, drops, HearCases, refuses, turnsOff, gathers, heeds, whole-of, other-of, hear-cases}
 use Rattle.station.specs.Hearing.{Hearing, hearOf}
-use Rattle.station.specs.KeepsEntering.{Fit, fit, same-blocks, enters-sound, view-station}
+use Rattle.station.specs.KeepsEntering.{Fit, fit, same-blocks, enters-sound, view-has}
 use Rattle.station.specs.KeepsStarting.{off-sound, restarted-sound}
 use Rattle.station.specs.ListKept.{cleared-kept, placed-misses}
 use Rattle.station.specs.Reachable.{Placed, Sound}
@@ -48,7 +49,7 @@ module _ (station : Station) (octets memory assembly : List ℕ) (ok : Sound sta
           let p = from .participates in
           restarted-sound station (cleared (station .members) (frame .source)) (viewHeard (station .view) frame) (after .gathering) (station .panel) ok
           (ok .ours (rw p)) (cleared-kept (ok .list) (frame .source))
-          (view-station station frame fits (ok .view (rw p)))
+          (view-has (λ n. isStation n ≡ true) (station .view) frame (ok .view (rw p)) (fits .destination))
           (gathered-placed frame from fits parts) (ok .panel)
       by (heeds frame facts entered) =
           enters-sound station frame ok (fit octets frame typed (whole-of facts)) (other-of facts) entered

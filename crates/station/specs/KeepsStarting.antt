@@ -6,7 +6,7 @@ use native.Mathlib.Omega.{arith}
 use lib.Dec.{eqb, leb}
 use borrow.Author.Tests.{leb-true, ltb-true}
 use Rattle.block.specs.Blocks.{blocksOf}
-use Rattle.laws.specs.Tests.{second}
+use Rattle.laws.specs.Tests.{second, first}
 use Rattle.members.specs.declared.Members.{Members}
 use Rattle.panel.specs.Panel.{blank, taken, ticked}
 use Rattle.panel.specs.declared.Panel.{Panel}
@@ -34,8 +34,12 @@ taken-shown false shown = shown
 pub ticked-shown : {panel : Panel} → Shown panel → Shown (ticked panel)
 ticked-shown shown = record { takings = shown .takings; running = omega arith; gap = shown .gap }
 
-pub number-to : (own : Settings) → Ours own → own .number ≤ 254
-number-to own ours = leb-true (own .number) 254 (second (leb 1 (own .number)) (leb (own .number) 254) (ours .number))
+-- numbers 1 to 254
+pub station-from : (number : ℕ) → isStation number ≡ true → 1 ≤ number
+station-from number e = leb-true 1 number (first (leb 1 number) (leb number 254) e)
+
+pub station-to : (number : ℕ) → isStation number ≡ true → number ≤ 254
+station-to number e = leb-true number 254 (second (leb 1 number) (leb number 254) e)
 
 -- a phase that begins with an empty list
 pub fresh-sound : (phase : Phase) (own : Settings) → own .number ≤ 254 → 0 < limitOf phase (own .number) (own .watch) → hasView phase ≡ false → (isOff phase ≡ false → Ours own)
@@ -63,10 +67,10 @@ pub off-sound : (own : Settings) → own .number ≤ 254 → Sound (fresh Off ow
 off-sound own number = fresh-sound Off own number (omega arith) refl (λ e. absurd (false≢true (sym e)))
 
 pub listening-sound : (own : Settings) → Ours own → Sound (fresh Listening own)
-listening-sound own ours = fresh-sound Listening own (number-to own ours) (omega arith) refl (λ e. ours)
+listening-sound own ours = fresh-sound Listening own (station-to (own .number) (ours .number)) (omega arith) refl (λ e. ours)
 
 pub startup-sound : (own : Settings) → Ours own → Sound (fresh Startup own)
-startup-sound own ours = fresh-sound Startup own (number-to own ours) (omega arith) refl (λ e. ours)
+startup-sound own ours = fresh-sound Startup own (station-to (own .number) (ours .number)) (omega arith) refl (λ e. ours)
 
 pub start-sound : (station : Station) (own : Settings) → TypedSettings own → Sound station → Sound (startOf station own .station)
 start-sound station own typed ok = switched-to Sound (start-cases station own) ok (λ starts.
@@ -85,7 +89,7 @@ begun-sound own members view ours list seen =
     record {
       list = list;
       empty = λ e. absurd (false≢true e);
-      number = number-to own ours;
+      number = station-to (own .number) (ours .number);
       ours = λ e. ours;
       rounds = omega arith;
       elapsed = omega arith;

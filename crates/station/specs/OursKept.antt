@@ -1,14 +1,14 @@
 -- "Our own areas are never written by a frame": in every state that calls can leave, hearing any octets leaves every octet of our own areas
 -- in the common memory as it was. Assumes nothing.
 use mathlib.Core.Path.{_≡_, refl, sym, _∙_}
-use mathlib.Core.Bool.{Bool, true, false, _||_, false≢true}
+use mathlib.Core.Bool.{true, false, false≢true}
 use mathlib.Core.List.{List}
 use Prim.Native.Nat.{ℕ, _+_, _≤_, max}
 use native.Mathlib.Omega.{arith}
 use lib.Dec.{eqb}
 use lib.ListN.{length, getD}
 use borrow.Author.Tests.{leb-true, eqb-true}
-use Rattle.laws.specs.Tests.{first}
+use Rattle.laws.specs.Tests.{first, neither-first, neither-second}
 use Rattle.area.specs.Areas.{inArea, inRange, spanOf, memoryOctets}
 use Rattle.area.specs.Overlap.{partsOverlap, areasOverlap}
 use Rattle.area.specs.Words.{shared-overlap}
@@ -38,14 +38,6 @@ shared-two : (a b : Part) (at : ℕ) → In (spanOf Two a) at → In (spanOf Two
 shared-two a b at p q =
     shared-overlap {a = a} {b = b} {word = max (a .address) (b .address)} (record { from = omega arith; before = omega arith }) (record { from = omega arith; before = omega arith })
 
-or-true : (a b : Bool) → (a || b) ≡ false → a ≡ true → ⊥
-or-true true b e p = false≢true (sym e)
-or-true false b e p = false≢true p
-
-or-true-second : (a b : Bool) → (a || b) ≡ false → b ≡ true → ⊥
-or-true-second true b e p = false≢true (sym e)
-or-true-second false b e p = false≢true (sym e ∙ p)
-
 -- areas in range that do not overlap share no octet
 module _ (a b : Areas) (ranged-a : inRange a ≡ true) (ranged-b : inRange b ≡ true) (clear : areasOverlap a b ≡ false) (at : ℕ) where
   a-one : a .one .address + a .one .size ≤ 512
@@ -55,11 +47,10 @@ module _ (a b : Areas) (ranged-a : inRange a ≡ true) (ranged-b : inRange b ≡
   b-one = leb-true (b .one .address + b .one .size) 512 (first (inArea One (b .one)) (inArea Two (b .two)) ranged-b)
 
   not-both : InAreas a at → InAreas b at → ⊥
-  not-both (inOne p) (inOne q) = or-true (partsOverlap (a .one) (b .one)) (partsOverlap (a .two) (b .two)) clear (shared-one (a .one) (b .one) at p q)
+  not-both (inOne p) (inOne q) = false≢true (sym (neither-first _ _ clear) ∙ shared-one (a .one) (b .one) at p q)
   not-both (inOne p) (inTwo q) = let h = a-one in omega arith
   not-both (inTwo p) (inOne q) = let h = b-one in omega arith
-  not-both (inTwo p) (inTwo q) =
-      or-true-second (partsOverlap (a .one) (b .one)) (partsOverlap (a .two) (b .two)) clear (shared-two (a .two) (b .two) at p q)
+  not-both (inTwo p) (inTwo q) = false≢true (sym (neither-second (partsOverlap (a .one) (b .one)) _ clear) ∙ shared-two (a .two) (b .two) at p q)
 
 -- the buffers have their length where a frame is read
 pub memory-long : (memory assembly : List ℕ) → lentRight memory assembly ≡ true → length memory ≡ memoryOctets

@@ -1,18 +1,14 @@
 -- A participant's view is its own number or a listed one, if it was so before: every call keeps this, but that who begins to participate from
 -- joining can begin with another view, the last token destination heard. Assumes nothing.
-use mathlib.Core.Path.{_≡_, refl, subst}
+use mathlib.Core.Path.{_≡_, refl}
 use mathlib.Core.Bool.{Bool, true, false, cond, false≢true}
 use mathlib.Core.List.{List}
-use Prim.Native.Nat.{ℕ, min}
-use native.Mathlib.Omega.{arith}
-use lib.Dec.{eqb, leb}
-use borrow.Author.Tests.{leb-true, leb-false}
-use Rattle.frame.specs.Codes.{isToken}
-use Rattle.frame.specs.declared.Fields.{Fields}
+use Prim.Native.Nat.{ℕ}
 use Rattle.station.specs.AskCases as on-asking
 use Rattle.station.specs.Calls.{Call, start, stop, tick, hear, ask, after}
 use Rattle.station.specs.HearCases.{off, begins, joins, passes, reads, lists, ignores, HearCases, refuses, turnsOff, gathers, heeds, hear-cases}
-use Rattle.station.specs.Hearing.{knows, Hearing}
+use Rattle.station.specs.Hearing.{Hearing}
+use Rattle.station.specs.KeepsEntering.{view-has}
 use Rattle.station.specs.Reachable.{Sound}
 use Rattle.station.specs.State.{isParticipating}
 use Rattle.station.specs.SwitchCases.{switched-to, start-cases, stop-cases}
@@ -28,14 +24,6 @@ use Rattle.station.specs.Asking.{Asking, isLast, nextStation}
 abbrev pub Seen : Station → Type 0
 Seen station = isParticipating (station .phase) ≡ true → Known (station .own .number) (station .members) (station .view)
 
--- the smaller of two numbers is one of them
-min-known : (P : ℕ → Type 0) (a b : ℕ) → P a → P b → P (min a b)
-min-known P a b p q = by (leb a b) refl
-  where
-    by : (test : Bool) → leb a b ≡ test → P (min a b)
-    by true t = let h = leb-true a b t in let s : a ≡ min a b = omega arith in subst P s p
-    by false t = let h = leb-false a b t in let s : b ≡ min a b = omega arith in subst P s q
-
 module _ (station : Station) (ok : Sound station) (seen : Seen station) (elsewhere : ¬ (station .phase ≡ Joining)) where
   tick-seen : {result : Ticking} → on-tick.TickCases station result → Seen (result .station)
   tick-seen (on-tick.off e) = seen
@@ -49,23 +37,12 @@ module _ (station : Station) (ok : Sound station) (seen : Seen station) (elsewhe
   tick-seen (on-tick.ends e t) = λ p. missed-known (ok .list) (station .view) (seen (rw e))
   tick-seen (on-tick.runs e t) = seen
 
-  -- the view after a token frame whose destination is known
-  heard-known : (frame : Fields) → isParticipating (station .phase) ≡ true → (isToken (frame .code) ≡ true → knows station (frame .destination) ≡ true)
-      → Known (station .own .number) (station .members) (viewHeard (station .view) frame)
-  heard-known frame p destination = by (isToken (frame .code)) refl (eqb (frame .source) (station .view))
-    where
-      by : (token : Bool) → isToken (frame .code) ≡ token → (same : Bool)
-          → Known (station .own .number) (station .members) (cond token (cond same (frame .destination) (min (station .view) (frame .destination))) (station .view))
-      by true t true = destination t
-      by true t false = min-known (Known (station .own .number) (station .members)) (station .view) (frame .destination) (seen p) (destination t)
-      by false t same = seen p
-
   hear-seen : {octets memory assembly : List ℕ} {result : Hearing} → HearCases station octets memory assembly result → Seen (result .station)
   hear-seen (refuses refusal) = seen
   hear-seen (turnsOff out) = λ p. absurd (false≢true p)
   hear-seen (gathers frame from parts) =
       λ z. known-misses (station .own .number) (station .members) (frame .source) 0 (viewHeard (station .view) frame)
-      (heard-known frame (rw (from .participates)) (from .destination))
+      (view-has (Known (station .own .number) (station .members)) (station .view) frame (seen (rw (from .participates))) (from .destination))
   hear-seen (heeds frame facts (off e)) = seen
   hear-seen (heeds frame facts (begins e c)) = λ p. absurd (false≢true p)
   hear-seen (heeds frame facts (joins e c)) = λ p. absurd (false≢true p)

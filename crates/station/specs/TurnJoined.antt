@@ -2,14 +2,12 @@
 -- right behind it, just as many as the source's listed areas have. Assumes nothing.
 use mathlib.Core.Path.{_≡_, sym, ap, _∙_}
 use mathlib.Core.List.{List, _++_, append-assoc}
-use mathlib.Core.Bool.{true, _&&_}
+use mathlib.Core.Bool.{true}
 use Prim.Native.Nat.{ℕ, _+_, _-_, _≤_}
 use native.Mathlib.Omega.{arith}
-use lib.Dec.{eqb}
 use lib.ListN.{length, take, drop, length-append, length-take, length-drop}
 use lib.Seq.{take-at}
 use borrow.Author.Tests.{eqb-true}
-use Rattle.laws.specs.Tests.{first, second}
 use Rattle.area.specs.Areas.{memoryOctets}
 use Rattle.area.specs.declared.Areas.{Areas}
 use Rattle.block.specs.Blocks.{octetsOf, blocksOf, startOf}
@@ -25,6 +23,7 @@ use Rattle.station.specs.Data.{sameAreas}
 use Rattle.station.specs.HearCases.{read-both}
 use Rattle.station.specs.Hearing.{hearOf}
 use Rattle.station.specs.KeepsAsking.{sound}
+use Rattle.station.specs.KeepsEntering.{same-octets}
 use Rattle.station.specs.Memory.{Whole, memory-written}
 use Rattle.station.specs.Reachable.{Reachable}
 use Rattle.station.specs.TurnWritten.{assembly-long}
@@ -41,23 +40,14 @@ data-long octets frame cyclic behind =
     let all : length (reading.dataOf octets frame) ≡ length octets - (length octets - reading.dataSize frame) = length-drop (length octets - reading.dataSize frame) octets in
     omega arith
 
--- the same sizes make the same turn
-pub same-octets : (a b : Areas) → sameAreas a b ≡ true → octetsOf a ≡ octetsOf b
-same-octets a b e =
-    let one = first (eqb (a .one .address) (b .one .address) && eqb (a .one .size) (b .one .size)) (eqb (a .two .address) (b .two .address) && eqb (a .two .size) (b .two .size)) e in
-    let two = second (eqb (a .one .address) (b .one .address) && eqb (a .one .size) (b .one .size)) (eqb (a .two .address) (b .two .address) && eqb (a .two .size) (b .two .size)) e in
-    let p = eqb-true (a .one .size) (b .one .size) (second (eqb (a .one .address) (b .one .address)) (eqb (a .one .size) (b .one .size)) one) in
-    let q = eqb-true (a .two .size) (b .two .size) (second (eqb (a .two .address) (b .two .address)) (eqb (a .two .size) (b .two .size)) two) in
-    rw (p, q)
-
 -- what stands up to the end of what was put in
-pub taken-through : (d s : List ℕ) (at end : ℕ) → at ≤ length d → at + length s ≡ end → take end (pasted d at s) ≡ take at d ++ s
-taken-through d s at end h e =
-    let front : length (take at d ++ s) ≡ end = length-append (take at d) s ∙ rw (length-take at d) (omega arith) in
-    ap (take end) (sym (append-assoc (take at d) s (drop (at + length s) d))) ∙ take-at (take at d ++ s) (drop (at + length s) d) end front
-
 joined-long : (d s : List ℕ) (at end : ℕ) → at ≤ length d → at + length s ≡ end → length (take at d ++ s) ≡ end
 joined-long d s at end h e = length-append (take at d) s ∙ rw (length-take at d) (omega arith)
+
+pub taken-through : (d s : List ℕ) (at end : ℕ) → at ≤ length d → at + length s ≡ end → take end (pasted d at s) ≡ take at d ++ s
+taken-through d s at end h e =
+    ap (take end) (sym (append-assoc (take at d) s (drop (at + length s) d)))
+    ∙ take-at (take at d ++ s) (drop (at + length s) d) end (joined-long d s at end h e)
 
 pub below : (at s end all : ℕ) → at + s ≡ end → end ≤ memoryOctets → all ≡ memoryOctets → at ≤ all
 below at s end all e h l = omega arith

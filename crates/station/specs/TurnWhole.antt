@@ -12,7 +12,7 @@ use Rattle.block.specs.Blocks.{octetsOf}
 use Rattle.frame.specs.declared.Fields.{Fields}
 use Rattle.members.specs.Members.{entryOf, isListed, strikes}
 use Rattle.station.specs.Answers.{dataOf}
-use Rattle.station.specs.ApartTicking.{station-from}
+use Rattle.station.specs.KeepsStarting.{station-from}
 use Rattle.station.specs.AskCases as on-asking
 use Rattle.station.specs.Calls.{Call, start, stop, tick, hear, ask, after}
 use Rattle.station.specs.Data.{without}
