@@ -12,7 +12,7 @@ use Rattle.station.specs.Asking.{placedIn, lastIn, nextFields, turnFor}
 use Rattle.block.specs.Blocks.{startOf}
 use Rattle.frame.specs.Codes.{isToken, isCyclic}
 use Rattle.frame.specs.declared.Fields.{Fields}
-use Rattle.heard_data.specs.Body.{body-same, body-read}
+use Rattle.heard_data.specs.Body.{body-read}
 use Rattle.laws.specs.Tests.{first, second}
 use Rattle.members.specs.Members.{isListed, nextAfter}
 use Rattle.members.specs.declared.Members.{Members}
@@ -20,6 +20,7 @@ use Rattle.panel.specs.Panel.{ticked, taken}
 use Rattle.reading.specs.Reading.{andThen, readOf, readHeaderOf, readBodyOf, dataOf}
 use Rattle.reading.specs.declared.Read.{Read}
 use Rattle.reading.specs.declared.Read.the-variants as reads
+use Rattle.round_trip.specs.Accepted.{bodied}
 use Rattle.station.specs.Answers.{phaseNumber}
 use Rattle.station.specs.Asking as asks
 use Rattle.station.specs.Data.{gathered}
@@ -182,7 +183,7 @@ module _
 
     header-heard : (read : Read) → andThen read (readBodyOf (length octets)) ≡ reads.Frame frame → headerHeard (stationOf core members) octets memory assembly read ≡ taken-in
     header-heard (reads.Refused refusal) e = let z : _≡_ {A = ℕ} 0 1 = cc in absurd (omega arith)
-    header-heard (reads.Frame header) e = rw (four, e, body-same (length octets) header frame e, other, listed, known, cyclic)
+    header-heard (reads.Frame header) e = rw (four, e, bodied (length octets) header frame e .is-same, other, listed, known, cyclic)
 
     -- a participant hears an accepted frame as the rules say
     pub accepted-heard : lentRight memory assembly ≡ true → readOf octets ≡ reads.Frame frame → hearOf (stationOf core members) octets memory assembly ≡ taken-in

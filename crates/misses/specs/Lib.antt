@@ -3,7 +3,6 @@ pub mod MissHistory
 pub mod WatchHistory
 -- Theorems.
 pub mod Cases
-pub mod CallCases
 pub mod EntryMoves
 pub mod ListMoves
 pub mod MissesTold

@@ -1,36 +1,37 @@
 -- What every call does to one station's entry. Assumes nothing.
 use mathlib.Core.Path.{_≡_}
-use mathlib.Core.Bool.{Bool, true, false, cond, not, _&&_, false≢true}
-use mathlib.Core.List.{List, [], _∷_}
+use mathlib.Core.Bool.{Bool, true, false, cond, not, _&&_, false≢true, and-false}
+use mathlib.Core.List.{List, []}
 use Prim.Native.Nat.{ℕ}
-use lib.Dec.{eqb, leb, ltb}
-use Rattle.area.specs.Areas.{inRange}
+use lib.Dec.{eqb, ltb}
 use Rattle.frame.specs.Codes.{isCyclic}
 use Rattle.frame.specs.declared.Code.{Code}
 use Rattle.frame.specs.declared.Code.the-variants.{Token, Cyclic, Request, Trigger}
 use Rattle.frame.specs.declared.Fields.{Fields}
 use Rattle.frame.specs.declared.Refusal.the-variants as refusals
 use Rattle.members.specs.Listing.{listing}
-use Rattle.members.specs.Members.{entryOf, isListed, numbersOf}
-use Rattle.panel.specs.Panel.{ticked}
-use Rattle.reading.specs.Reading.{isStation}
+use Rattle.members.specs.Members.{entryOf, isListed}
+use Rattle.reading.specs.Reading.{readOf}
 use Rattle.reading.specs.declared.Read.{Read}
-use Rattle.station.specs.Asking as asking
+use Rattle.round_trip.specs.Accepted.{reads}
+use Rattle.station.specs.AskCases as on-asking
 use Rattle.station.specs.Calls.{Call, start, stop, tick, hear, ask, after, heardVerdict}
-use Rattle.station.specs.Hearing.{Hearing, requested, afterTaken, hearOf}
+use Rattle.station.specs.Data.{dropped}
+use Rattle.station.specs.HearCases as on-hearing
+use Rattle.station.specs.Hearing.{Hearing, requested, participantHeard}
 use Rattle.station.specs.History.{participates}
 use Rattle.station.specs.ListKept.{none-listed}
-use Rattle.station.specs.PanelMoves.{in-phase}
-use Rattle.station.specs.Starting.{oursDue, startedUp, joinedBy}
-use Rattle.station.specs.State.{isParticipating}
-use Rattle.station.specs.Ticking.{tickedBy, watchEnds, watchEnded, counted, later}
-use Rattle.station.specs.Waits.{acceptanceTime, detectionWait, longestWatch}
+use Rattle.station.specs.Starting.{oursDue, joinedBy, need}
+use Rattle.station.specs.State.{isParticipating, fresh, isOff, stopped}
+use Rattle.station.specs.SwitchCases.{switched-to, start-cases, stop-cases}
+use Rattle.station.specs.TickCases as on-tick
+use Rattle.station.specs.Ticking.{Ticking}
 use Rattle.station.specs.declared.Phase.{Phase}
 use Rattle.station.specs.declared.Phase.the-variants.{Off, Listening, Startup, Joining, Participating}
-use Rattle.station.specs.declared.Settings.{Settings}
 use Rattle.station.specs.declared.Station.{Station}
+use Rattle.station.specs.declared.Switched.the-variants.{Done}
 use Rattle.writing.specs.Writing.{noAreas}
-use Rattle.misses.specs.CallCases.{heardIn, hear-cases, ask-cases, need-cases, either}
+use Rattle.station.specs.Asking.{Asking}
 use Rattle.misses.specs.EntryMoves.{Moves, same, gone, listing-moves, cleared-moves, missed-moves, first-moves}
 use Rattle.misses.specs.MissHistory.{isUnrefused, readsAs, listsIn, lists, accepts, ends, isStop}
 
@@ -41,57 +42,76 @@ Does x station call left =
     (entryOf (station .members) x) (entryOf (left .members) x)
 
 module _ (x : ℕ) where
-  tick-does : (phase : Phase) (station : Station) → Does x (in-phase phase station) tick (tickedBy phase (in-phase phase station))
-  tick-does Off station = same
-  tick-does Listening station = same
-  tick-does Startup station =
-      either (Does x (in-phase Startup station) tick) (leb acceptanceTime (later acceptanceTime (station .elapsed) .0)) (by (numbersOf (station .members))) same
-    where
-      by : (numbers : List ℕ) → Does x (in-phase Startup station) tick (startedUp (station .own) (station .members) numbers)
-      by [] = gone (none-listed x)
-      by (number ∷ rest) = same
-  tick-does Joining station =
-      either (Does x (in-phase Joining station) tick) (leb detectionWait (later detectionWait (station .elapsed) .0)) (gone (none-listed x)) same
-  tick-does Participating station = by (watchEnds (in-phase Participating station))
-    where
-      by : (ended : Bool) → Moves true false false (ended && eqb (station .view) x) (entryOf (station .members) x)
-          (entryOf (cond ended
-          (watchEnded (in-phase Participating station))
-          (counted (in-phase Participating station) (station .own) (later longestWatch (station .elapsed)) (station .waited) (ticked (station .panel))) .members) x)
-      by true = missed-moves (station .members) (station .view) x
-      by false = same
-
-  start-does : (phase : Phase) (station : Station) (own : Settings) → Does x (in-phase phase station) (start own) (after (in-phase phase station) (start own))
-  start-does Off station own =
-      need-cases (Does x (in-phase Off station) (start own)) (in-phase Off station) (isStation (own .number) && ltb 0 (own .watch .0)) refusals.Address _ same
-      (need-cases (Does x (in-phase Off station) (start own)) (in-phase Off station) (inRange (own .areas)) refusals.Area _ same (gone (none-listed x)))
-  start-does Listening station own = same
-  start-does Startup station own = same
-  start-does Joining station own = same
-  start-does Participating station own = same
-
-  stop-does : (phase : Phase) (station : Station) → Does x (in-phase phase station) stop (after (in-phase phase station) stop)
-  stop-does Off station = same
-  stop-does Listening station = gone (none-listed x)
-  stop-does Startup station = gone (none-listed x)
-  stop-does Joining station = gone (none-listed x)
-  stop-does Participating station = gone (none-listed x)
+  tick-does : {station : Station} {result : Ticking} → on-tick.TickCases station result → Does x station tick (result .station)
+  tick-does (on-tick.off e) = rw e same
+  tick-does (on-tick.listens e) = rw e same
+  tick-does (on-tick.starts e t) = rw e same
+  tick-does (on-tick.lapses e t) = rw e (gone (none-listed x))
+  tick-does (on-tick.begins e t) = rw e same
+  tick-does (on-tick.givesUp e t) = rw e (gone (none-listed x))
+  tick-does (on-tick.learns e t r) = rw e same
+  tick-does (on-tick.waits e t r) = rw e same
+  tick-does {station} (on-tick.ends e t) = rw (e, t) (missed-moves (station .members) (station .view) x)
+  tick-does (on-tick.runs e t) = rw (e, t) same
 
   -- a participant that is stopped lists nobody
-  pub stop-empties : (phase : Phase) (station : Station) → isParticipating phase ≡ true → isListed (after (in-phase phase station) stop .members) x ≡ false
-  stop-empties Off station e = absurd (false≢true e)
-  stop-empties Listening station e = none-listed x
-  stop-empties Startup station e = none-listed x
-  stop-empties Joining station e = none-listed x
-  stop-empties Participating station e = none-listed x
+  pub stop-empties : (station : Station) → participates station ≡ true → isListed (after station stop .members) x ≡ false
+  stop-empties station = by (station .phase)
+    where
+      by : (phase : Phase) → isParticipating phase ≡ true
+          → isListed (need (not (isOff phase)) refusals.NotDue station (record { station = stopped station; answer = Done }) .station .members) x ≡ false
+      by Off e = absurd (false≢true e)
+      by Listening e = none-listed x
+      by Startup e = none-listed x
+      by Joining e = none-listed x
+      by Participating e = none-listed x
 
-  sent-does : (phase : Phase) (station : Station) (memory turn output : List ℕ)
-      → Does x (in-phase phase station) (ask memory turn output) (asking.sentIn phase (in-phase phase station))
-  sent-does Off station memory turn output = same
-  sent-does Listening station memory turn output = gone (none-listed x)
-  sent-does Startup station memory turn output = same
-  sent-does Joining station memory turn output = same
-  sent-does Participating station memory turn output = same
+  ask-does : {station : Station} {memory turn output : List ℕ} {result : Asking} → on-asking.AskCases station memory turn output result
+      → Does x station (ask memory turn output) (result .station)
+  ask-does (on-asking.refuses refusal) = same
+  ask-does (on-asking.sends lent is (on-asking.triggers e due)) = rw e (gone (none-listed x))
+  ask-does (on-asking.sends lent is (on-asking.requests e fallen)) = same
+  ask-does (on-asking.sends lent is (on-asking.begins e fallen)) = same
+  ask-does (on-asking.sends lent is (on-asking.passes e held placed)) = same
+
+  -- what a frame that no refusal met does, of each code in each phase
+  module _ (station : Station) (frame : Fields) where
+    abbrev Heeds : Phase → Code → Station → Type 0
+    Heeds phase code left =
+        Moves (isParticipating phase && true) (listsIn phase (station .rounds) code && eqb (frame .source) x)
+        (isParticipating phase && (isCyclic code && eqb (frame .source) x)) false (entryOf (station .members) x) (entryOf (left .members) x)
+
+    joins-first : {phase : Phase} → on-hearing.Awaits phase → Heeds phase Token (joinedBy (fresh Joining (station .own)) frame)
+    joins-first on-hearing.listening-awaits = first-moves (frame .source) x (frame .areas) (frame .watch) noAreas
+    joins-first on-hearing.startup-awaits = first-moves (frame .source) x (frame .areas) (frame .watch) noAreas
+
+    passes : {phase : Phase} → on-hearing.Awaits phase → Heeds phase Cyclic station
+    passes on-hearing.listening-awaits = same
+    passes on-hearing.startup-awaits = same
+
+    requests : {phase : Phase} → on-hearing.Lists phase → Heeds phase Request (requested station frame)
+    requests on-hearing.startup-lists = listing-moves (station .members) (frame .source) x (frame .areas) (frame .watch) (oursDue station)
+    requests on-hearing.participant-lists = listing-moves (station .members) (frame .source) x (frame .areas) (frame .watch) (oursDue station)
+
+    ignored : {phase : Phase} {code : Code} → on-hearing.Unnamed phase code → Heeds phase code station
+    ignored on-hearing.listening-request = same
+    ignored on-hearing.startup-trigger = same
+    ignored on-hearing.joining-request = same
+    ignored on-hearing.joining-trigger = same
+    ignored on-hearing.participating-trigger = same
+
+    -- a frame that joining reads
+    joins : (learns : Bool) → Moves false (learns && eqb (frame .source) x) false false (entryOf (station .members) x)
+        (entryOf (cond learns (listing (station .members) (frame .source) (frame .areas) (frame .watch) noAreas) (station .members)) x)
+    joins true = listing-moves (station .members) (frame .source) x (frame .areas) (frame .watch) noAreas
+    joins false = same
+
+    -- a cyclic frame is no request
+    gathers : (code : Code) → isCyclic code ≡ true → Heeds Participating code (participantHeard station frame (dropped [] []) .station)
+    gathers Token c = cleared-moves (station .members) (frame .source) x
+    gathers Cyclic c = cleared-moves (station .members) (frame .source) x
+    gathers Request c = absurd (false≢true c)
+    gathers Trigger c = absurd (false≢true c)
 
   -- what hearing does, where the octets read so
   abbrev Hears : Station → Read → Hearing → Type 0
@@ -103,71 +123,25 @@ module _ (x : ℕ) where
       && readsAs (λ frame. participates station && (isCyclic (frame .code) && eqb (frame .source) x)) read)
       false (entryOf (station .members) x) (entryOf (result .station .members) x)
 
-  -- number 6
-  six : (phase : Phase) (station : Station) → Moves (isParticipating phase && true) false false false
-      (entryOf (station .members) x) (entryOf (afterTaken (in-phase phase station) .members) x)
-  six Off station = gone (none-listed x)
-  six Listening station = gone (none-listed x)
-  six Startup station = gone (none-listed x)
-  six Joining station = gone (none-listed x)
-  six Participating station = same
-
-  module _ (frame : Fields) (octets memory assembly : List ℕ) where
-    -- a frame that joining reads
-    joins : (station : Station) → Moves false (ltb (station .rounds) 3 && eqb (frame .source) x) false false
-        (entryOf (station .members) x) (entryOf (joinedBy station frame .members) x)
-    joins station = by (ltb (station .rounds) 3)
-      where
-        by : (test : Bool) → Moves false (test && eqb (frame .source) x) false false (entryOf (station .members) x)
-            (entryOf (cond test (listing (station .members) (frame .source) (frame .areas) (frame .watch) noAreas) (station .members)) x)
-        by true = listing-moves (station .members) (frame .source) x (frame .areas) (frame .watch) noAreas
-        by false = same
-
-    -- a frame that no refusal met, of each code in each phase
-    abbrev Heeds : Phase → Code → Station → Type 0
-    Heeds phase code station =
-        Moves (isParticipating phase && true)
-        (isUnrefused (heardVerdict (heardIn phase code station frame octets memory assembly .answer))
-        && (listsIn phase (station .rounds) code && eqb (frame .source) x))
-        (isUnrefused (heardVerdict (heardIn phase code station frame octets memory assembly .answer))
-        && (isParticipating phase && (isCyclic code && eqb (frame .source) x)))
-        false (entryOf (station .members) x) (entryOf (heardIn phase code station frame octets memory assembly .station .members) x)
-
-    requests : {stays : Bool} (station : Station) → Moves stays (eqb (frame .source) x) false false
-        (entryOf (station .members) x) (entryOf (requested station frame .members) x)
-    requests station = listing-moves (station .members) (frame .source) x (frame .areas) (frame .watch) (oursDue station)
-
-    heeds : (phase : Phase) (code : Code) (station : Station) → Heeds phase code (in-phase phase station)
-    heeds Off code station = same
-    heeds Listening Token station = first-moves (frame .source) x (frame .areas) (frame .watch) noAreas
-    heeds Listening Cyclic station = same
-    heeds Listening Request station = same
-    heeds Listening Trigger station = gone (none-listed x)
-    heeds Startup Token station = first-moves (frame .source) x (frame .areas) (frame .watch) noAreas
-    heeds Startup Cyclic station = same
-    heeds Startup Request station = requests (in-phase Startup station)
-    heeds Startup Trigger station = same
-    heeds Joining Token station = joins station
-    heeds Joining Cyclic station = joins station
-    heeds Joining Request station = same
-    heeds Joining Trigger station = same
-    heeds Participating Token station = cleared-moves (station .members) (frame .source) x
-    heeds Participating Cyclic station = cleared-moves (station .members) (frame .source) x
-    heeds Participating Request station = requests (in-phase Participating station)
-    heeds Participating Trigger station = same
-
-  hear-does : (station : Station) (octets memory assembly : List ℕ)
-      → Does x station (hear octets memory assembly) (hearOf station octets memory assembly .station)
-  hear-does station octets memory assembly =
-      hear-cases station octets memory assembly (Hears station) (λ read refusal. same) (λ read. six (station .phase) station)
-      (λ frame. heeds frame octets memory assembly (station .phase) (frame .code) station)
+  hear-does : {station : Station} {octets memory assembly : List ℕ} {result : Hearing} → on-hearing.HearCases station octets memory assembly result
+      → Hears station (readOf octets) result
+  hear-does (on-hearing.refuses refusal) = same
+  hear-does (on-hearing.turnsOff out) = rw out (gone (none-listed x))
+  hear-does {station} (on-hearing.gathers frame from parts) =
+      rw (reads (on-hearing.whole-of (from .accepts)), from .participates) (gathers station frame (frame .code) (from .cyclic))
+  hear-does (on-hearing.heeds frame facts (on-hearing.off e)) = rw (reads (on-hearing.whole-of facts), e) same
+  hear-does (on-hearing.heeds frame facts (on-hearing.begins e c)) = rw (reads (on-hearing.whole-of facts), e) (gone (none-listed x))
+  hear-does {station} (on-hearing.heeds frame facts (on-hearing.joins e c)) = rw (reads (on-hearing.whole-of facts), c) (joins-first station frame e)
+  hear-does {station} (on-hearing.heeds frame facts (on-hearing.passes e c)) = rw (reads (on-hearing.whole-of facts), c) (passes station frame e)
+  hear-does {station} (on-hearing.heeds frame facts (on-hearing.reads e c)) =
+      rw (reads (on-hearing.whole-of facts), e, c) (joins station frame (ltb (station .rounds) 3))
+  hear-does {station} (on-hearing.heeds frame facts (on-hearing.lists e c)) = rw (reads (on-hearing.whole-of facts), c) (requests station frame e)
+  hear-does {station} (on-hearing.heeds frame facts (on-hearing.ignores e)) = rw (reads (on-hearing.whole-of facts)) (ignored station frame e)
 
   -- every call
   pub does : (station : Station) (call : Call) → Does x station call (after station call)
-  does station (start own) = start-does (station .phase) station own
-  does station stop = stop-does (station .phase) station
-  does station tick = tick-does (station .phase) station
-  does station (hear octets memory assembly) = hear-does station octets memory assembly
-  does station (ask memory turn output) =
-      ask-cases station memory turn output (λ result. Does x station (ask memory turn output) (result .station)) (λ refusal. same)
-      (sent-does (station .phase) station memory turn output)
+  does station (start own) = switched-to (Does x station (start own)) (start-cases station own) same (λ starts. rw (starts .off) (gone (none-listed x)))
+  does station stop = switched-to (Does x station stop) (stop-cases station) same (λ on. rw (and-false (participates station)) (gone (none-listed x)))
+  does station tick = tick-does (on-tick.tick-cases station)
+  does station (hear octets memory assembly) = hear-does (on-hearing.hear-cases station octets memory assembly)
+  does station (ask memory turn output) = ask-does (on-asking.ask-cases station memory turn output)

@@ -40,7 +40,7 @@ module _ (calls : List Call) (x : ℕ) (listed : isListed (stateAfter never call
   pub struck-third : participates (stateAfter never calls) ≡ true → (call : Call) → isListed (after (stateAfter never calls) call .members) x
       ≡ not (isStop call || endsThird x (stepOf (stateAfter never calls) call ∷ history never calls))
   struck-third inside (start settings) = goes-on inside (start settings) refl
-  struck-third inside stop = stop-empties x (stateAfter never calls .phase) (stateAfter never calls) inside
+  struck-third inside stop = stop-empties x (stateAfter never calls) inside
   struck-third inside tick = goes-on inside tick refl
   struck-third inside (hear octets memory assembly) = goes-on inside (hear octets memory assembly) refl
   struck-third inside (ask memory turn output) = goes-on inside (ask memory turn output) refl

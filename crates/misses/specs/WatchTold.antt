@@ -1,38 +1,29 @@
 -- A participant's watch ends in the tick that the history says. Assumes nothing.
 use mathlib.Core.Path.{_≡_, refl, sym, ap, _∙_}
-use mathlib.Core.Bool.{Bool, true, false, cond, not, _&&_, _||_, false≢true}
+use mathlib.Core.Bool.{Bool, true, false, not, _&&_, _||_, false≢true}
 use mathlib.Core.List.{List, [], _∷_}
-use Prim.Native.Nat.{ℕ, suc, _+_, _≤_}
+use Prim.Native.Nat.{ℕ, suc, _+_}
 use native.Mathlib.Numerals.{add-one}
 use native.Mathlib.Omega.{arith}
-use lib.Dec.{leb, ltb}
+use lib.Dec.{leb}
 use borrow.Author.Tests.{leb-false}
-use Rattle.area.specs.Areas.{inRange}
 use Rattle.frame.specs.Codes.{isCyclic}
-use Rattle.frame.specs.declared.Code.{Code}
-use Rattle.frame.specs.declared.Code.the-variants.{Token, Cyclic, Request, Trigger}
-use Rattle.frame.specs.declared.Fields.{Fields}
-use Rattle.frame.specs.declared.Refusal.the-variants as refusals
-use Rattle.members.specs.Members.{numbersOf}
-use Rattle.panel.specs.Panel.{ticked}
-use Rattle.reading.specs.Reading.{isStation}
-use Rattle.station.specs.Asking as asking
+use Rattle.reading.specs.Reading.{readOf}
+use Rattle.round_trip.specs.Accepted.{reads}
+use Rattle.station.specs.AskCases as on-asking
 use Rattle.station.specs.Calls.{Call, start, stop, tick, hear, ask, after, heardVerdict, askedVerdict}
-use Rattle.station.specs.Hearing.{afterTaken}
+use Rattle.station.specs.HearCases as on-hearing
+use Rattle.station.specs.Hearing.{Hearing}
 use Rattle.station.specs.History.{Step, stepOf, stepsOn, history, stateAfter, participates, isTick}
 use Rattle.station.specs.KeepsAsking.{kept, sound}
-use Rattle.station.specs.PanelMoves.{in-phase}
 use Rattle.station.specs.Reachable.{unstarted, Sound}
 use Rattle.station.specs.Reached.{AllTyped}
-use Rattle.station.specs.Starting.{startedUp}
-use Rattle.station.specs.State.{isParticipating, never, stopped}
-use Rattle.station.specs.Ticking.{tickedBy, watchEnds, watchEnded, counted, later}
-use Rattle.station.specs.Waits.{acceptanceTime, detectionWait, longestWatch}
-use Rattle.station.specs.declared.Phase.{Phase}
-use Rattle.station.specs.declared.Phase.the-variants.{Off, Listening, Startup, Joining, Participating}
-use Rattle.station.specs.declared.Settings.{Settings}
+use Rattle.station.specs.State.{never}
+use Rattle.station.specs.SwitchCases.{switched-to, start-cases, stop-cases}
+use Rattle.station.specs.TickCases as on-tick
+use Rattle.station.specs.Ticking.{watchEnds, Ticking}
 use Rattle.station.specs.declared.Station.{Station}
-use Rattle.misses.specs.CallCases.{heardIn, hear-cases, ask-cases, need-cases, either}
+use Rattle.station.specs.Asking.{Asking}
 use Rattle.misses.specs.MissHistory.{isUnrefused, readsAs, hears}
 use Rattle.misses.specs.WatchHistory.{sends, restarts, endsAfter, runAfter, watchRun}
 
@@ -59,109 +50,57 @@ still station = record { run = by (participates station) }
     by true e = refl
     by false e = absurd (false≢true e)
 
-tick-runs : (phase : Phase) (station : Station) → Sound (in-phase phase station)
-    → Runs (in-phase phase station) (not (isParticipating phase) || false) true (tickedBy phase (in-phase phase station))
-tick-runs Off station ok = out refl
-tick-runs Listening station ok = out refl
-tick-runs Startup station ok =
-    either (Runs (in-phase Startup station) true true) (leb acceptanceTime (later acceptanceTime (station .elapsed) .0)) (by (numbersOf (station .members)))
-    (out refl)
-  where
-    by : (numbers : List ℕ) → Runs (in-phase Startup station) true true (startedUp (station .own) (station .members) numbers)
-    by [] = out refl
-    by (number ∷ rest) = goes refl
-tick-runs Joining station ok =
-    either (Runs (in-phase Joining station) true true) (leb detectionWait (later detectionWait (station .elapsed) .0)) (out refl) (out refl)
-tick-runs Participating station ok = goes (rw (← same) (by (watchEnds (in-phase Participating station)) refl))
-  where
-    most : station .own .watch .0 ≤ 255
-    most = ok .ours refl .watch-to
+-- a tick ends the watch where the history says
+same-end : (station : Station) → watchEnds station ≡ endsAfter (station .own .watch .0) (station .elapsed .0)
+same-end station = ap (leb _) (add-one (station .elapsed .0))
 
-    same : watchEnds (in-phase Participating station) ≡ endsAfter (station .own .watch .0) (station .elapsed .0)
-    same = ap (leb _) (add-one (station .elapsed .0))
+tick-runs : {station : Station} {result : Ticking} → Sound station → on-tick.TickCases station result
+    → Runs station (not (participates station) || false) true (result .station)
+tick-runs ok (on-tick.off e) = out (rw e)
+tick-runs ok (on-tick.listens e) = out (rw e)
+tick-runs ok (on-tick.starts e t) = out (rw e)
+tick-runs ok (on-tick.lapses e t) = out refl
+tick-runs ok (on-tick.begins e t) = goes (rw e)
+tick-runs ok (on-tick.givesUp e t) = out refl
+tick-runs ok (on-tick.learns e t r) = out (rw e)
+tick-runs ok (on-tick.waits e t r) = out (rw e)
+tick-runs {station} ok (on-tick.ends e t) = goes (rw (e, ← same-end station, t))
+tick-runs {station} ok (on-tick.runs e t) =
+    let most = ok .ours (rw e) .watch-to in
+    let below = leb-false _ (station .elapsed .0 + 1) t in
+    goes (rw (e, ← same-end station, t) (omega arith))
 
-    by : (ended : Bool) → watchEnds (in-phase Participating station) ≡ ended
-        → cond ended
-        (watchEnded (in-phase Participating station))
-        (counted (in-phase Participating station) (station .own) (later longestWatch (station .elapsed)) (station .waited) (ticked (station .panel))) .elapsed .0
-        ≡ cond ended 0 (suc (station .elapsed .0))
-    by true e = refl
-    by false e = let below = leb-false _ (station .elapsed .0 + 1) e in omega (arith, most)
+hear-runs : {station : Station} {octets memory assembly : List ℕ} {result : Hearing} → on-hearing.HearCases station octets memory assembly result
+    → Runs station
+    (not (participates station) || ((isUnrefused (heardVerdict (result .answer)) && readsAs (λ frame. isCyclic (frame .code)) (readOf octets)) || false))
+    false (result .station)
+hear-runs {station} (on-hearing.refuses refusal) = still station
+hear-runs (on-hearing.turnsOff before) = out refl
+hear-runs (on-hearing.gathers frame from parts) = goes (rw (from .participates, reads (on-hearing.whole-of (from .accepts)), from .cyclic))
+hear-runs (on-hearing.heeds frame facts (on-hearing.off e)) = out (rw e)
+hear-runs (on-hearing.heeds frame facts (on-hearing.begins e c)) = out refl
+hear-runs (on-hearing.heeds frame facts (on-hearing.joins e c)) = out refl
+hear-runs (on-hearing.heeds frame facts (on-hearing.passes e c)) = out (on-hearing.awaits-outside e)
+hear-runs (on-hearing.heeds frame facts (on-hearing.reads e c)) = out refl
+hear-runs {station} (on-hearing.heeds frame facts (on-hearing.lists e c)) =
+    rw (reads (on-hearing.whole-of facts), c) (record { run = still station .run })
+hear-runs {station} (on-hearing.heeds frame facts (on-hearing.ignores e)) = rw (reads (on-hearing.whole-of facts), on-hearing.unnamed-plain e) (still station)
 
-start-runs : (phase : Phase) (station : Station) (own : Settings)
-    → Runs (in-phase phase station) (not (isParticipating phase) || false) false (after (in-phase phase station) (start own))
-start-runs Off station own =
-    need-cases (Runs (in-phase Off station) true false) (in-phase Off station) (isStation (own .number) && ltb 0 (own .watch .0)) refusals.Address _ (out refl)
-    (need-cases (Runs (in-phase Off station) true false) (in-phase Off station) (inRange (own .areas)) refusals.Area _ (out refl) (out refl))
-start-runs Listening station own = out refl
-start-runs Startup station own = out refl
-start-runs Joining station own = out refl
-start-runs Participating station own = goes refl
-
-stop-runs : (phase : Phase) (station : Station)
-    → Runs (in-phase phase station) (not (isParticipating phase) || false) false (after (in-phase phase station) stop)
-stop-runs Off station = out refl
-stop-runs Listening station = out refl
-stop-runs Startup station = out refl
-stop-runs Joining station = out refl
-stop-runs Participating station = out refl
-
--- number 6
-six : (station : Station) → Runs station (not (participates station) || false) false (afterTaken station)
-six station = by (participates station)
-  where
-    by : (inside : Bool) → Runs station (not inside || false) false (cond inside station (stopped station))
-    by true = goes refl
-    by false = out refl
-
--- a frame that no refusal met
-module _ (frame : Fields) (octets memory assembly : List ℕ) where
-  heeds : (phase : Phase) (code : Code) (station : Station)
-      → Runs (in-phase phase station)
-      (not (isParticipating phase)
-      || ((isUnrefused (heardVerdict (heardIn phase code (in-phase phase station) frame octets memory assembly .answer)) && isCyclic code) || false))
-      false (heardIn phase code (in-phase phase station) frame octets memory assembly .station)
-  heeds Off code station = out refl
-  heeds Listening Token station = out refl
-  heeds Listening Cyclic station = out refl
-  heeds Listening Request station = out refl
-  heeds Listening Trigger station = out refl
-  heeds Startup Token station = out refl
-  heeds Startup Cyclic station = out refl
-  heeds Startup Request station = out refl
-  heeds Startup Trigger station = out refl
-  heeds Joining Token station = out refl
-  heeds Joining Cyclic station = out refl
-  heeds Joining Request station = out refl
-  heeds Joining Trigger station = out refl
-  heeds Participating Token station = goes refl
-  heeds Participating Cyclic station = goes refl
-  heeds Participating Request station = goes refl
-  heeds Participating Trigger station = goes refl
-
-sent-runs : (phase : Phase) (station : Station)
-    → Runs (in-phase phase station) (not (isParticipating phase) || true) false (asking.sentIn phase (in-phase phase station))
-sent-runs Off station = out refl
-sent-runs Listening station = out refl
-sent-runs Startup station = out refl
-sent-runs Joining station = goes refl
-sent-runs Participating station = goes refl
+ask-runs : {station : Station} {memory turn output : List ℕ} {result : Asking} → on-asking.AskCases station memory turn output result
+    → Runs station (not (participates station) || isUnrefused (askedVerdict (result .answer))) false (result .station)
+ask-runs {station} (on-asking.refuses refusal) = still station
+ask-runs (on-asking.sends lent is (on-asking.triggers e due)) = out refl
+ask-runs (on-asking.sends lent is (on-asking.requests e fallen)) = out (rw e)
+ask-runs (on-asking.sends lent is (on-asking.begins e fallen)) = goes (rw e)
+ask-runs (on-asking.sends lent is (on-asking.passes e held placed)) = goes (rw e)
 
 runs : (station : Station) (call : Call) → Sound station → Runs station (restarts station call) (isTick call) (after station call)
-runs station (start own) ok = start-runs (station .phase) station own
-runs station stop ok = stop-runs (station .phase) station
-runs station tick ok = tick-runs (station .phase) station ok
-runs station (hear octets memory assembly) ok =
-    hear-cases station octets memory assembly
-    (λ read result. Runs station
-    (not (participates station) || ((isUnrefused (heardVerdict (result .answer)) && readsAs (λ frame. isCyclic (frame .code)) read) || false))
-    false (result .station))
-    (λ read refusal. still station) (λ read. six station)
-    (λ frame. heeds frame octets memory assembly (station .phase) (frame .code) station)
-runs station (ask memory turn output) ok =
-    ask-cases station memory turn output
-    (λ result. Runs station (not (participates station) || isUnrefused (askedVerdict (result .answer))) false (result .station))
-    (λ refusal. still station) (sent-runs (station .phase) station)
+runs station (start own) ok =
+    switched-to (Runs station (not (participates station) || false) false) (start-cases station own) (still station) (λ starts. out refl)
+runs station stop ok = switched-to (Runs station (not (participates station) || false) false) (stop-cases station) (still station) (λ on. out refl)
+runs station tick ok = tick-runs ok (on-tick.tick-cases station)
+runs station (hear octets memory assembly) ok = hear-runs (on-hearing.hear-cases station octets memory assembly)
+runs station (ask memory turn output) ok = ask-runs (on-asking.ask-cases station memory turn output)
 
 -- what holds of a participant after these steps
 abbrev Told : List Step → Station → Type 0

@@ -5,26 +5,24 @@ use mathlib.Core.List.{List}
 use Prim.Native.Nat.{ℕ}
 use native.Mathlib.Decide.{ℕ-discrete}
 use lib.Dec.{eqb}
-use borrow.Author.Tests.{eq-eqb, ne-eqb}
+use borrow.Author.Tests.{eq-eqb, ne-eqb, eqb-false}
 use Rattle.frame.specs.Codes.{isCyclic}
-use Rattle.frame.specs.declared.Code.{Code}
-use Rattle.frame.specs.declared.Code.the-variants.{Token, Cyclic, Request, Trigger}
+use Rattle.frame.specs.declared.Code.the-variants.{Request}
 use Rattle.frame.specs.declared.Fields.{Fields}
 use Rattle.misses.specs.CoverThird.{brought-more}
 use Rattle.misses.specs.MissHistory.{Brought}
 use Rattle.reading.specs.Reading.{readOf}
 use Rattle.reading.specs.declared.Read.the-variants.{Frame}
-use Rattle.round_trip.specs.Accepted.{Accepted, accepted}
+use Rattle.round_trip.specs.Accepted.{reads}
 use Rattle.settling.specs.Ring.{_∈_}
 use Rattle.station.specs.Calls.{Call, start, after, refusedBy, verdict}
-use Rattle.station.specs.Hearing as hearing
+use Rattle.station.specs.HearCases as on-hearing
+use Rattle.station.specs.Hearing.{Hearing, requested}
 use Rattle.station.specs.Refusing.{Spared, same, turnedOff, refused-left}
 use Rattle.station.specs.State.{isParticipating}
-use Rattle.station.specs.declared.Phase.the-variants.{Participating}
 use Rattle.station.specs.declared.Station.{Station}
 use Rattle.ring.specs.Counts.{Does, nothing}
 use Rattle.ring.specs.Events.{Stations, stray, afterEvent, Stray, refused, starts, harmless, CanCome}
-use Rattle.station.specs.AskedHeard.{header-read, body-read}
 use Rattle.ring.specs.Lists.{ring-kept}
 use Rattle.ring.specs.Member.{InRing, listed}
 use Rattle.ring.specs.Steps.{Ok}
@@ -59,7 +57,7 @@ module _ {numbers : List ℕ} {number : ℕ} {station : Station} (in-ring : InRi
   start-kept settings = rw (in-ring .participates)
 
   -- a request of another station of the ring replaces its entry
-  request-kept : (frame : Fields) → frame .source ∈ numbers → ¬ (frame .source ≡ number) → Kept numbers number station (hearing.requested station frame)
+  request-kept : (frame : Fields) → frame .source ∈ numbers → ¬ (frame .source ≡ number) → Kept numbers number station (requested station frame)
   request-kept frame m other = record {
     in-ring = record {
       participates = in-ring .participates;
@@ -74,36 +72,33 @@ module _ {numbers : List ℕ} {number : ℕ} {station : Station} (in-ring : InRi
     elapsed = refl;
   }
 
-  entered-kept : (code : Code) (frame : Fields) → isCyclic code ≡ false → (code ≡ Request → frame .source ∈ numbers) → ¬ (frame .source ≡ number) →
-      Kept numbers number station (hearing.enters Participating code station frame)
-  entered-kept Token frame plain from other = absurd (false≢true (sym plain))
-  entered-kept Cyclic frame plain from other = absurd (false≢true (sym plain))
-  entered-kept Request frame plain from other = request-kept frame (from refl) other
-  entered-kept Trigger frame plain from other = unchanged
-
   -- a trigger, or a request of a station of the ring
-  frame-kept : (octets memory assembly : List ℕ) (frame : Fields) → readOf octets ≡ Frame frame → isCyclic (frame .code) ≡ false →
-      (frame .code ≡ Request → frame .source ∈ numbers) → Kept numbers number station (hearing.hearOf station octets memory assembly .station)
-  frame-kept octets memory assembly frame read plain from = by (hearing.lentRight memory assembly) refl (ℕ-discrete (frame .source) number)
-    where
-      a : Accepted octets frame
-      a = accepted octets frame read
-
-      by : (lent : Bool) → hearing.lentRight memory assembly ≡ lent → Dec (frame .source ≡ number) → Kept numbers number station (hearing.hearOf station octets memory assembly .station)
-      by false e d = unchanged-if (rw e)
-      by true e (yes mine) =
-          let six : eqb (frame .source) (station .own .number) ≡ true = eq-eqb _ _ (mine ∙ sym (in-ring .own)) in
-          unchanged-if (rw (e, header-read a, in-ring .participates, six))
-      by true e (no other) =
-          let different : eqb (frame .source) (station .own .number) ≡ false = ne-eqb _ _ (λ d. other (d ∙ in-ring .own)) in
-          let left : hearing.hearOf station octets memory assembly .station ≡ hearing.enters Participating (frame .code) station frame =
-          rw (e, header-read a, in-ring .participates, different, body-read a, plain) in
-          subst (Kept numbers number station) (sym left) (entered-kept (frame .code) frame plain from other)
+  frame-kept : {octets memory assembly : List ℕ} {result : Hearing} (frame : Fields) → readOf octets ≡ Frame frame → isCyclic (frame .code) ≡ false →
+      (frame .code ≡ Request → frame .source ∈ numbers) → on-hearing.HearCases station octets memory assembly result →
+      Kept numbers number station (result .station)
+  frame-kept frame read plain from (on-hearing.refuses refusal) = unchanged
+  frame-kept frame read plain from (on-hearing.turnsOff out) = absurd (false≢true (sym out ∙ inside))
+  frame-kept frame read plain from (on-hearing.gathers other facts parts) =
+      let is = reads (on-hearing.whole-of (facts .accepts)) in
+      let alike : frame ≡ other = cc in
+      absurd (false≢true (sym plain ∙ ap (λ (f : Fields). isCyclic (f .code)) alike ∙ facts .cyclic))
+  frame-kept frame read plain from (on-hearing.heeds other facts (on-hearing.off e)) = unchanged
+  frame-kept frame read plain from (on-hearing.heeds other facts (on-hearing.begins e c)) = absurd (false≢true (sym (ap isParticipating e) ∙ inside))
+  frame-kept frame read plain from (on-hearing.heeds other facts (on-hearing.joins e c)) = absurd (false≢true (sym (on-hearing.awaits-outside e) ∙ inside))
+  frame-kept frame read plain from (on-hearing.heeds other facts (on-hearing.passes e c)) = unchanged
+  frame-kept frame read plain from (on-hearing.heeds other facts (on-hearing.reads e c)) = absurd (false≢true (sym (ap isParticipating e) ∙ inside))
+  frame-kept frame read plain from (on-hearing.heeds other facts (on-hearing.lists e c)) =
+      let is = reads (on-hearing.whole-of facts) in
+      let alike : other ≡ frame = cc in
+      let among : frame .source ∈ numbers = from (ap (λ (f : Fields). f .code) (sym alike) ∙ c) in
+      request-kept other (rw alike among) (λ d. eqb-false _ _ (on-hearing.other-of facts (on-hearing.lists-on e)) (d ∙ sym (in-ring .own)))
+  frame-kept frame read plain from (on-hearing.heeds other facts (on-hearing.ignores e)) = unchanged
 
   pub stray-kept : {call : Call} → Stray numbers station call → Kept numbers number station (after station call)
   stray-kept (refused {call} refusal e) = refused-kept call refusal e
   stray-kept (starts settings) = unchanged-if (start-kept settings)
-  stray-kept (harmless octets memory assembly fields read plain from) = frame-kept octets memory assembly fields read plain from
+  stray-kept (harmless octets memory assembly fields read plain from) =
+      frame-kept fields read plain from (on-hearing.hear-cases station octets memory assembly)
 
 module _ (numbers : List ℕ) (stations : Stations) (ok : Ok numbers stations) (who : ℕ) (call : Call) (can : CanCome numbers stations (stray who call)) where
   left-of : (n : ℕ) → n ∈ numbers → Kept numbers n (stations n) (afterEvent stations (stray who call) n)

@@ -80,12 +80,12 @@ headed s fields e =
     }
 
 -- what refusals 7 and 8 let through
-record Bodied (given : ℕ) (header fields : Fields) : Type 0 where
-  is-same : header ≡ fields
-  is-ranged : ranged fields ≡ true
-  is-blocked : (not (isCyclic (fields .code)) || blocked given fields) ≡ true
+pub record Bodied (given : ℕ) (header fields : Fields) : Type 0 where
+  pub is-same : header ≡ fields
+  pub is-ranged : ranged fields ≡ true
+  pub is-blocked : (not (isCyclic (fields .code)) || blocked given fields) ≡ true
 
-bodied : (given : ℕ) (header fields : Fields) → readBodyOf given header ≡ Frame fields → Bodied given header fields
+pub bodied : (given : ℕ) (header fields : Fields) → readBodyOf given header ≡ Frame fields → Bodied given header fields
 bodied given header fields e =
     let p = passed (ranged header) refusals.Area (need (not (isCyclic (header .code)) || blocked given header) refusals.Block (Frame header)) fields e in
     let q = passed (not (isCyclic (header .code)) || blocked given header) refusals.Block (Frame header) fields (p .1) in

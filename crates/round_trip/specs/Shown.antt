@@ -1,6 +1,6 @@
 -- What each test of the reading shows of the fields. Assumes nothing.
-use mathlib.Core.Path.{_≡_}
-use mathlib.Core.Bool.{Bool, true, not, _&&_, _||_}
+use mathlib.Core.Path.{_≡_, refl}
+use mathlib.Core.Bool.{Bool, true, not, _&&_, _||_, false≢true}
 use mathlib.Core.List.{List}
 use Prim.Native.Nat.{ℕ, _-_, _≤_}
 use lib.Dec.{eqb, leb}
@@ -12,9 +12,18 @@ use Rattle.block.specs.Blocks.{blocksOf, lengthOf}
 use Rattle.frame.specs.Codes.{isToken, isCyclic, carriesAreas}
 use Rattle.frame.specs.Octets.{longAt}
 use Rattle.frame.specs.Positions.{TFL}
+use Rattle.frame.specs.declared.Code.{Code}
+use Rattle.frame.specs.declared.Code.the-variants.{Token, Cyclic, Request, Trigger}
 use Rattle.frame.specs.declared.Fields.{Fields}
 use Rattle.round_trip.specs.Accepted.{Accepted}
 use Rattle.reading.specs.Reading.{isStation, blocked}
+
+-- a cyclic frame carries areas
+pub cyclic-carries : (code : Code) → isCyclic code ≡ true → carriesAreas code ≡ true
+cyclic-carries Token e = refl
+cyclic-carries Cyclic e = refl
+cyclic-carries Request e = absurd (false≢true e)
+cyclic-carries Trigger e = absurd (false≢true e)
 
 -- the block fields of a cyclic frame
 pub record Blocked (given : ℕ) (fields : Fields) : Type 0 where

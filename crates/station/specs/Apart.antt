@@ -11,6 +11,7 @@ use borrow.Author.Tests.{ne-eqb}
 use Rattle.area.specs.Overlap.{filled, startsBeforeEnd, partsOverlap, areasOverlap}
 use Rattle.area.specs.declared.Areas.{Areas}
 use Rattle.area.specs.declared.Part.{Part}
+use Rattle.laws.specs.Tests.{neither-first, neither-second}
 use Rattle.members.specs.Listing.{bare, overlapFrom, overlapsOther, listing}
 use Rattle.members.specs.Members.{nobody, noMembers, entryOf, isListed, withEntry, missesSet, struck, strikes, missed}
 use Rattle.members.specs.declared.Entry.{Entry}
@@ -49,25 +50,16 @@ parts-sym a b = ap₂ _&&_ (and-comm (filled a) (filled b)) (and-comm (startsBef
 pub overlap-sym : (a b : Areas) → areasOverlap a b ≡ areasOverlap b a
 overlap-sym a b = ap₂ _||_ (parts-sym (a .one) (b .one)) (parts-sym (a .two) (b .two))
 
--- a test of two parts that fails in both
-first-fails : (a b : Bool) → (a || b) ≡ false → a ≡ false
-first-fails true b e = e
-first-fails false b e = refl
-
-second-fails : (a b : Bool) → (a || b) ≡ false → b ≡ false
-second-fails true b e = absurd (false≢true (sym e))
-second-fails false b e = e
-
 -- what a search for an overlap that fails tells of every entry but one
 not-found : (entries : List Entry) (from but : ℕ) (areas : Areas) → overlapFrom from but areas entries ≡ false
     → (i : ℕ) → ¬ (from + i ≡ but) → getD entries i nobody .listed ≡ true → areasOverlap areas (getD entries i nobody .areas) ≡ false
 not-found [] from but areas e i other listed = absurd (false≢true listed)
 not-found (entry ∷ rest) from but areas e zero other listed =
-    let here : ((entry .listed && not (eqb from but)) && areasOverlap areas (entry .areas)) ≡ false = first-fails _ (overlapFrom (suc from) but areas rest) e in
+    let here : ((entry .listed && not (eqb from but)) && areasOverlap areas (entry .areas)) ≡ false = neither-first _ (overlapFrom (suc from) but areas rest) e in
     let unlike : eqb from but ≡ false = ne-eqb from but (λ q. other (omega arith)) in
     rw (listed, unlike) at here
 not-found (entry ∷ rest) from but areas e (suc i) other listed =
-    not-found rest (suc from) but areas (second-fails ((entry .listed && not (eqb from but)) && areasOverlap areas (entry .areas)) _ e) i
+    not-found rest (suc from) but areas (neither-second ((entry .listed && not (eqb from but)) && areasOverlap areas (entry .areas)) _ e) i
     (λ q. other (omega arith)) listed
 
 pub no-overlap : (members : Members) (but : ℕ) (areas : Areas) → overlapsOther members but areas ≡ false
@@ -145,7 +137,7 @@ module _ (members : Members) (number : ℕ) (areas : Areas) (watch : Millisecond
       by : (test : Bool) → (overlapsOther members number areas || areasOverlap areas due) ≡ test → (n : ℕ) → ¬ (n ≡ number) → isListed members n ≡ true
           → areasOverlap (cond test (bare areas) areas) (entryOf members n .areas) ≡ false
       by true t n other k = refl
-      by false t n other k = no-overlap members number areas (first-fails (overlapsOther members number areas) (areasOverlap areas due) t) n other k
+      by false t n other k = no-overlap members number areas (neither-first (overlapsOther members number areas) (areasOverlap areas due) t) n other k
 
   pub clear-listing : Clear due members → Clear due (listing members number areas watch due)
   clear-listing clear =
@@ -153,4 +145,4 @@ module _ (members : Members) (number : ℕ) (areas : Areas) (watch : Millisecond
     where
       by : (test : Bool) → (overlapsOther members number areas || areasOverlap areas due) ≡ test → areasOverlap due (cond test (bare areas) areas) ≡ false
       by true t = overlap-sym due (bare areas)
-      by false t = overlap-sym due areas ∙ second-fails (overlapsOther members number areas) (areasOverlap areas due) t
+      by false t = overlap-sym due areas ∙ neither-second (overlapsOther members number areas) (areasOverlap areas due) t

@@ -1,39 +1,34 @@
--- Hearing and asking keep the areas apart; so they are apart in every state that calls can leave. Assumes nothing.
+-- Every call keeps the areas apart; so they are apart in every state that calls can leave. Assumes nothing.
 use mathlib.Core.Path.{_≡_, refl, sym, _∙_}
-use mathlib.Core.Bool.{Bool, true, false, cond, _&&_, false≢true}
+use mathlib.Core.Bool.{Bool, true, false, cond, false≢true}
 use mathlib.Core.List.{List}
 use Prim.Native.Nat.{ℕ, _≤_}
 use native.Mathlib.Omega.{arith}
 use lib.Dec.{eqb, leb, ltb}
-use lib.ListN.{length}
 use borrow.Author.Tests.{leb-true, ltb-true, ltb-false, eq-eqb, ne-eqb}
-use Rattle.frame.specs.Codes.{isCyclic}
-use Rattle.frame.specs.declared.Code.{Code}
-use Rattle.frame.specs.declared.Code.the-variants.{Token, Cyclic, Request, Trigger}
 use Rattle.frame.specs.declared.Fields.{Fields}
-use Rattle.frame.specs.declared.Refusal.the-variants as refusals
 use Rattle.laws.specs.Tests.{both, second}
 use Rattle.members.specs.Listing.{listing}
 use Rattle.members.specs.declared.Members.{Members}
-use Rattle.reading.specs.Reading.{isStation, readHeaderOf, readBodyOf, dataOf}
-use Rattle.reading.specs.declared.Read.{Read}
-use Rattle.reading.specs.declared.Read.the-variants.{Frame, Refused}
+use Rattle.reading.specs.Reading.{isStation}
 use Rattle.writing.specs.Writing.{noAreas}
 use Rattle.station.specs.Apart.{Disjoint, Clear, Apart, disjoint-misses, clear-misses, disjoint-listing, clear-listing}
-use Rattle.station.specs.ApartTicking.{fresh-apart, start-apart, stop-apart, tick-apart, station-from}
-use Rattle.station.specs.Asking as asking
+use Rattle.station.specs.ApartTicking.{fresh-apart, tick-apart}
+use Rattle.station.specs.AskCases as on-asking
 use Rattle.station.specs.Calls.{Call, start, stop, tick, hear, ask, after}
-use Rattle.station.specs.Data.{gathered}
-use Rattle.station.specs.Hearing.{requested, enters, entersAnswer, participantHeard, accepted, isTaken, afterTaken, isStranger, lentRight, refused, bodyHeard, headerHeard, hearOf}
+use Rattle.station.specs.HearCases.{off, begins, joins, passes, reads, lists, ignores, awaits-on, HearCases, refuses, turnsOff, gathers, heeds, hear-cases}
+use Rattle.station.specs.Hearing.{requested, Hearing}
 use Rattle.station.specs.KeepsAsking.{sound}
 use Rattle.station.specs.KeepsEntering.{same-fallen}
+use Rattle.station.specs.KeepsStarting.{station-from}
 use Rattle.station.specs.Reachable.{Reachable, unstarted, called, Sound}
 use Rattle.station.specs.Starting.{requestFallen, oursDue, joinedBy}
-use Rattle.station.specs.State.{isOff, isParticipating, fresh, stopped}
+use Rattle.station.specs.State.{fresh}
+use Rattle.station.specs.SwitchCases.{switched-to, start-cases, stop-cases}
 use Rattle.station.specs.Waits.{numberWait}
-use Rattle.station.specs.declared.Phase.{Phase}
-use Rattle.station.specs.declared.Phase.the-variants.{Off, Listening, Startup, Joining, Participating}
+use Rattle.station.specs.declared.Phase.the-variants.{Off, Startup, Joining, Listening}
 use Rattle.station.specs.declared.Station.{Station}
+use Rattle.station.specs.Asking.{Asking}
 
 -- what joining reads: nothing is listed any more when our request falls due
 joined-apart : (station : Station) (frame : Fields) → station .phase ≡ Joining → Apart station → isStation (station .own .number) ≡ true
@@ -62,14 +57,6 @@ joined-apart station frame e apart number three early = record {
         let all = ltb-false (station .rounds) 3 m in
         apart .ours (rw e (both (eq-eqb (station .rounds) 3 (omega arith)) z))
 
--- sending our request alters nothing of whether it has fallen due
-sent-fallen : (phase : Phase) (station : Station) → requestFallen phase (asking.requestSent station) ≡ requestFallen phase station
-sent-fallen Off station = refl
-sent-fallen Listening station = refl
-sent-fallen Startup station = refl
-sent-fallen Joining station = refl
-sent-fallen Participating station = refl
-
 module _ (station : Station) (ok : Sound station) (apart : Apart station) where
   requested-apart : (frame : Fields) → Apart (requested station frame)
   requested-apart frame = record {
@@ -82,121 +69,36 @@ module _ (station : Station) (ok : Sound station) (apart : Apart station) where
       by true f z = clear-listing (station .members) (frame .source) (frame .areas) (frame .watch) (station .own .areas) (apart .ours f)
       by false f z = absurd (false≢true (sym f ∙ z))
 
-  first-joined : (frame : Fields) → isOff (station .phase) ≡ false → Apart (joinedBy (fresh Joining (station .own)) frame)
-  first-joined frame on =
-      joined-apart (fresh Joining (station .own)) frame refl (fresh-apart Joining (station .own)) (ok .ours on .number) (omega arith) (λ z. refl)
+  hear-apart : {octets memory assembly : List ℕ} {result : Hearing} → HearCases station octets memory assembly result → Apart (result .station)
+  hear-apart (refuses refusal) = apart
+  hear-apart (turnsOff out) = fresh-apart Off _
+  hear-apart (gathers frame from parts) = record {
+    listed = disjoint-misses (station .members) (frame .source) 0 (apart .listed);
+    ours = λ z. clear-misses (station .members) (frame .source) 0 (station .own .areas) (apart .ours (rw (from .participates)));
+  }
+  hear-apart (heeds frame facts (off e)) = apart
+  hear-apart (heeds frame facts (begins e c)) = fresh-apart Startup (station .own)
+  hear-apart (heeds frame facts (joins e c)) =
+      joined-apart (fresh Joining (station .own)) frame refl (fresh-apart Joining (station .own)) (ok .ours (awaits-on e) .number) (omega arith) (λ z. refl)
+  hear-apart (heeds frame facts (passes e c)) = apart
+  hear-apart (heeds frame facts (reads e c)) = joined-apart station frame e apart (ok .ours (rw e) .number) (ok .rounds) (ok .unwaited)
+  hear-apart (heeds frame facts (lists e c)) = requested-apart frame
+  hear-apart (heeds frame facts (ignores e)) = apart
 
-  more-joined : (frame : Fields) → station .phase ≡ Joining → Apart (joinedBy station frame)
-  more-joined frame e = joined-apart station frame e apart (ok .ours (rw e) .number) (ok .rounds) (ok .unwaited)
-
-  enters-apart : (phase : Phase) (code : Code) (frame : Fields) → station .phase ≡ phase → Apart (enters phase code station frame)
-  enters-apart Off code frame e = apart
-  enters-apart Listening Token frame e = first-joined frame (rw e)
-  enters-apart Listening Cyclic frame e = apart
-  enters-apart Listening Request frame e = apart
-  enters-apart Listening Trigger frame e = fresh-apart Startup (station .own)
-  enters-apart Startup Token frame e = first-joined frame (rw e)
-  enters-apart Startup Cyclic frame e = apart
-  enters-apart Startup Request frame e = requested-apart frame
-  enters-apart Startup Trigger frame e = apart
-  enters-apart Joining Token frame e = more-joined frame e
-  enters-apart Joining Cyclic frame e = more-joined frame e
-  enters-apart Joining Request frame e = apart
-  enters-apart Joining Trigger frame e = apart
-  enters-apart Participating Token frame e = apart
-  enters-apart Participating Cyclic frame e = apart
-  enters-apart Participating Request frame e = requested-apart frame
-  enters-apart Participating Trigger frame e = apart
-
-  -- a participant's request has fallen due
-  fallen-of : (phase : Phase) → isParticipating phase ≡ true → requestFallen phase station ≡ true
-  fallen-of Off e = e
-  fallen-of Listening e = e
-  fallen-of Startup e = absurd (false≢true e)
-  fallen-of Joining e = absurd (false≢true e)
-  fallen-of Participating e = refl
-
-  module _ (octets memory assembly : List ℕ) where
-    accepted-apart : (frame : Fields) → Apart (accepted station frame octets memory assembly .station)
-    accepted-apart frame = by (isParticipating (station .phase)) refl (isCyclic (frame .code))
-      where
-        by : (participating : Bool) → isParticipating (station .phase) ≡ participating → (cyclic : Bool) → Apart
-            (cond (participating && cyclic)
-            (participantHeard station frame (gathered station frame (dataOf octets frame) assembly memory))
-            (record {
-              station = enters (station .phase) (frame .code) station frame;
-              answer = entersAnswer (station .phase) (frame .code);
-              memory = memory;
-              assembly = assembly;
-            }) .station)
-        by true p true = record {
-          listed = disjoint-misses (station .members) (frame .source) 0 (apart .listed);
-          ours = λ z. clear-misses (station .members) (frame .source) 0 (station .own .areas) (apart .ours (fallen-of (station .phase) p));
-        }
-        by true p false = enters-apart (station .phase) (frame .code) frame refl
-        by false p cyclic = enters-apart (station .phase) (frame .code) frame refl
-
-    body-apart : (read : Read) → Apart (bodyHeard station octets memory assembly read .station)
-    body-apart (Refused refusal) = apart
-    body-apart (Frame frame) = by (isStranger station frame)
-      where
-        by : (stranger : Bool) → Apart
-            (cond stranger (refused station memory assembly refusals.Stranger) (accepted station frame octets memory assembly) .station)
-        by true = apart
-        by false = accepted-apart frame
-
-    header-apart : (read : Read) → Apart (headerHeard station octets memory assembly read .station)
-    header-apart (Refused refusal) = apart
-    header-apart (Frame frame) = by (isTaken station frame)
-      where
-        off : (participating : Bool) → Apart (cond participating station (stopped station))
-        off true = apart
-        off false = fresh-apart Off _
-
-        by : (is-taken : Bool) → Apart
-            (cond is-taken
-            (refused (afterTaken station) memory assembly refusals.Taken)
-            (bodyHeard station octets memory assembly (readBodyOf (length octets) frame)) .station)
-        by true = off (isParticipating (station .phase))
-        by false = body-apart (readBodyOf (length octets) frame)
-
-    hear-apart : Apart (hearOf station octets memory assembly .station)
-    hear-apart = by (lentRight memory assembly)
-      where
-        by : (right : Bool) → Apart
-            (cond right
-            (headerHeard station octets memory assembly (readHeaderOf octets))
-            (refused station memory assembly refusals.Buffer) .station)
-        by true = header-apart (readHeaderOf octets)
-        by false = apart
-
-  sent-apart : (phase : Phase) → station .phase ≡ phase → asking.dueIn phase station ≡ true → Apart (asking.sentIn phase station)
-  sent-apart Off e due = apart
-  sent-apart Listening e due = fresh-apart Startup (station .own)
-  sent-apart Startup e due = record { listed = apart .listed; ours = λ z. apart .ours (sym (sent-fallen (station .phase) station) ∙ z) }
-  sent-apart Joining e due = record { listed = apart .listed; ours = λ z. apart .ours (rw e due) }
-  sent-apart Participating e due = record { listed = apart .listed; ours = λ z. apart .ours (rw e) }
-
-  ask-apart : (memory turn output : List ℕ) → Apart (asking.askOf station memory turn output .station)
-  ask-apart memory turn output = by (asking.lentRight memory turn output) (asking.dueIn (station .phase) station) refl
-    where
-      by : (right due : Bool) → asking.dueIn (station .phase) station ≡ due → Apart
-          (cond right
-          (cond due
-          (asking.written station (asking.turnAfter (station .phase) station memory turn) output)
-          (asking.refused station turn output refusals.NotDue))
-          (asking.refused station turn output refusals.Buffer) .station)
-      by true true d = sent-apart (station .phase) refl d
-      by true false d = apart
-      by false due d = apart
+  ask-apart : {memory turn output : List ℕ} {result : Asking} → on-asking.AskCases station memory turn output result → Apart (result .station)
+  ask-apart (on-asking.refuses refusal) = apart
+  ask-apart (on-asking.sends lent is (on-asking.triggers e due)) = fresh-apart Startup (station .own)
+  ask-apart (on-asking.sends lent is (on-asking.requests e fallen)) = record { listed = apart .listed; ours = λ z. apart .ours (rw e fallen) }
+  ask-apart (on-asking.sends lent is (on-asking.begins e fallen)) = record { listed = apart .listed; ours = λ z. apart .ours (rw e fallen) }
+  ask-apart (on-asking.sends lent is (on-asking.passes e held placed)) = record { listed = apart .listed; ours = λ z. apart .ours (rw e) }
 
   -- every call keeps the areas apart
   pub kept-apart : (call : Call) → Apart (after station call)
-  kept-apart (start settings) = start-apart station settings apart
-  kept-apart stop = stop-apart station apart
+  kept-apart (start own) = switched-to Apart (start-cases station own) apart (λ starts. fresh-apart Listening own)
+  kept-apart stop = switched-to Apart (stop-cases station) apart (λ on. fresh-apart Off _)
   kept-apart tick = tick-apart station ok apart
-  kept-apart (hear octets memory assembly) = hear-apart octets memory assembly
-  kept-apart (ask memory turn output) = ask-apart memory turn output
+  kept-apart (hear octets memory assembly) = hear-apart (hear-cases station octets memory assembly)
+  kept-apart (ask memory turn output) = ask-apart (on-asking.ask-cases station memory turn output)
 
 -- areas do not overlap in any state that any list of calls with any arguments can leave since off
 pub apart : (station : Station) → Reachable station → Apart station

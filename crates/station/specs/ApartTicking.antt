@@ -1,55 +1,29 @@
--- Start, stop and a tick keep the areas apart. Assumes nothing.
+-- A tick keeps the areas apart. Assumes nothing.
 use mathlib.Core.Path.{_≡_, refl, sym, _∙_}
-use mathlib.Core.Bool.{Bool, true, false, cond, not, _&&_, false≢true}
-use mathlib.Core.List.{List, [], _∷_}
-use Prim.Native.Nat.{ℕ, _+_, _≤_, min}
+use mathlib.Core.Bool.{Bool, true, false, cond, _&&_, false≢true}
+use Prim.Native.Nat.{_+_, _≤_, min}
 use native.Mathlib.Omega.{arith}
 use lib.Dec.{eqb, leb, ltb}
 use borrow.Author.Tests.{leb-true, ltb-false, le-leb}
-use Rattle.area.specs.Areas.{inRange}
-use Rattle.frame.specs.declared.Refusal.{Refusal}
-use Rattle.frame.specs.declared.Refusal.the-variants as refusals
 use Rattle.laws.specs.Tests.{both, first, second}
 use Rattle.members.specs.Listing.{bare, overlapsListed}
-use Rattle.members.specs.Members.{numbersOf}
-use Rattle.panel.specs.Panel.{ticked}
 use Rattle.panel.specs.declared.Panel.{Panel}
-use Rattle.reading.specs.Reading.{isStation}
 use Rattle.units.specs.declared.Ticks.{Ticks}
-use Rattle.station.specs.Apart.{Clear, Apart, no-overlap, disjoint-none, clear-none, disjoint-missed, clear-missed}
+use Rattle.station.specs.Apart.{Apart, no-overlap, disjoint-none, clear-none, disjoint-missed, clear-missed}
+use Rattle.station.specs.KeepsStarting.{station-from, station-to}
 use Rattle.station.specs.Reachable.{Sound}
-use Rattle.station.specs.Starting.{Switching, need, startOf, stopOf, requestFallen, startedUp}
-use Rattle.station.specs.State.{isOff, fresh}
-use Rattle.station.specs.Ticking.{later, counted, fallsDue, startupTick, joiningWait, joiningTick, watchEnded, watchEnds, participantTick, tickedBy, tickOf}
-use Rattle.station.specs.Waits.{detectionWait, acceptanceTime, numberWait, longestWatch}
+use Rattle.station.specs.Starting.{requestFallen}
+use Rattle.station.specs.State.{fresh}
+use Rattle.station.specs.TickCases.{TickCases, off, listens, starts, lapses, begins, givesUp, learns, waits, ends, runs, tick-cases}
+use Rattle.station.specs.Ticking.{later, counted, fallsDue, joiningWait, tickOf, Ticking}
+use Rattle.station.specs.Waits.{detectionWait, acceptanceTime, numberWait}
 use Rattle.station.specs.declared.Phase.{Phase}
-use Rattle.station.specs.declared.Phase.the-variants.{Off, Listening, Startup, Joining, Participating}
+use Rattle.station.specs.declared.Phase.the-variants.{Listening, Joining}
 use Rattle.station.specs.declared.Settings.{Settings}
 use Rattle.station.specs.declared.Station.{Station}
 
 pub fresh-apart : (phase : Phase) (own : Settings) → Apart (fresh phase own)
 fresh-apart phase own = record { listed = disjoint-none; ours = λ e. clear-none (own .areas) }
-
-need-apart : (test : Bool) (refusal : Refusal) (station : Station) (rest : Switching) → Apart station → Apart (rest .station)
-    → Apart (need test refusal station rest .station)
-need-apart true refusal station rest apart more = more
-need-apart false refusal station rest apart more = apart
-
-pub start-apart : (station : Station) (own : Settings) → Apart station → Apart (startOf station own .station)
-start-apart station own apart =
-    need-apart (isOff (station .phase)) refusals.NotDue station _ apart
-    (need-apart (isStation (own .number) && ltb 0 (own .watch .0)) refusals.Address station _ apart
-    (need-apart (inRange (own .areas)) refusals.Area station _ apart (fresh-apart Listening own)))
-
-pub stop-apart : (station : Station) → Apart station → Apart (stopOf station .station)
-stop-apart station apart = need-apart (not (isOff (station .phase))) refusals.NotDue station _ apart (fresh-apart Off _)
-
--- numbers 1 to 254
-pub station-from : (number : ℕ) → isStation number ≡ true → 1 ≤ number
-station-from number e = leb-true 1 number (first (leb 1 number) (leb number 254) e)
-
-pub station-to : (number : ℕ) → isStation number ≡ true → number ≤ 254
-station-to number e = leb-true number 254 (second (leb 1 number) (leb number 254) e)
 
 module _ (station : Station) (ok : Sound station) (apart : Apart station) where
   -- our own settings with both sizes 0
@@ -62,9 +36,9 @@ module _ (station : Station) (ok : Sound station) (apart : Apart station) where
       → leb (numberWait (station .own .number)) (to .0) ≡ true)
       (fell : requestFallen (station .phase) (counted station (station .own) elapsed waited panel) ≡ true
       → leb (numberWait (station .own .number)) (from .0) ≡ true → requestFallen (station .phase) station ≡ true) where
-    due-apart : (unfallen ends overlaps : Bool) → ltb (from .0) (numberWait (station .own .number)) ≡ unfallen
-        → leb (numberWait (station .own .number)) (to .0) ≡ ends → overlapsListed (station .members) (station .own .areas) ≡ overlaps
-        → Apart (counted station (cond (unfallen && ends) (cond overlaps bared (station .own)) (station .own)) elapsed waited panel)
+    due-apart : (unfallen falls-in overlaps : Bool) → ltb (from .0) (numberWait (station .own .number)) ≡ unfallen
+        → leb (numberWait (station .own .number)) (to .0) ≡ falls-in → overlapsListed (station .members) (station .own .areas) ≡ overlaps
+        → Apart (counted station (cond (unfallen && falls-in) (cond overlaps bared (station .own)) (station .own)) elapsed waited panel)
     due-apart true true true u t o = record { listed = apart .listed; ours = λ z n l. refl }
     due-apart true true false u t o = record {
       listed = apart .listed;
@@ -72,7 +46,7 @@ module _ (station : Station) (ok : Sound station) (apart : Apart station) where
           (λ q. let some = station-from n (ok .list .each n l .station) in omega arith) l;
     }
     due-apart true false overlaps u t o = record { listed = apart .listed; ours = λ z. absurd (false≢true (sym t ∙ falls z)) }
-    due-apart false ends overlaps u t o = record {
+    due-apart false falls-in overlaps u t o = record {
       listed = apart .listed;
       ours = λ z. apart .ours (fell z (le-leb _ _ (ltb-false (from .0) (numberWait (station .own .number)) u)));
     }
@@ -82,60 +56,33 @@ module _ (station : Station) (ok : Sound station) (apart : Apart station) where
         due-apart (ltb (from .0) (numberWait (station .own .number))) (leb (numberWait (station .own .number)) (to .0))
         (overlapsListed (station .members) (station .own .areas)) refl refl refl
 
-  started-apart : (numbers : List ℕ) → requestFallen (station .phase) station ≡ true → Apart (startedUp (station .own) (station .members) numbers)
-  started-apart [] fallen = fresh-apart Listening (station .own)
-  started-apart (number ∷ rest) fallen = record { listed = apart .listed; ours = λ z. apart .ours fallen }
+  -- joining goes on
+  joining-apart : station .phase ≡ Joining → (waited : Ticks) → Apart (joiningWait station (later detectionWait (station .elapsed)) waited)
+  joining-apart e waited =
+      falls-apart (later detectionWait (station .elapsed)) waited (station .panel) (station .waited) waited
+      (λ z. second (eqb (station .rounds) 3) (leb (numberWait (station .own .number)) (waited .0)) (rw e at z))
+      (λ z f. rw e (both (first (eqb (station .rounds) 3) (leb (numberWait (station .own .number)) (waited .0)) (rw e at z)) f))
 
-  startup-tick : station .phase ≡ Startup → Apart (startupTick station (later acceptanceTime (station .elapsed)))
-  startup-tick e = by (leb acceptanceTime (min acceptanceTime (station .elapsed .0 + 1))) refl
-    where
-      by : (test : Bool) → leb acceptanceTime (min acceptanceTime (station .elapsed .0 + 1)) ≡ test → Apart
-          (cond test
-          (startedUp (station .own) (station .members) (numbersOf (station .members)))
-          (counted station (fallsDue station (station .elapsed) (later acceptanceTime (station .elapsed))) (later acceptanceTime (station .elapsed)) (station .waited) (station .panel)))
-      by true t =
-          let long = leb-true acceptanceTime (min acceptanceTime (station .elapsed .0 + 1)) t in
-          let small = station-to (station .own .number) (ok .ours (rw e) .number) in
-          let come : numberWait (station .own .number) ≤ station .elapsed .0 = omega arith in
-          started-apart (numbersOf (station .members)) (rw e (le-leb _ _ come))
-      by false t =
-          falls-apart (later acceptanceTime (station .elapsed)) (station .waited) (station .panel) (station .elapsed) (later acceptanceTime (station .elapsed))
-          (λ z. rw e at z) (λ z f. rw e f)
-
-  joining-tick : station .phase ≡ Joining → Apart (joiningTick station (later detectionWait (station .elapsed)))
-  joining-tick e = by (leb detectionWait (min detectionWait (station .elapsed .0 + 1)))
-      (cond (eqb (station .rounds) 3) (later (numberWait (station .own .number)) (station .waited)) (station .waited))
-    where
-      by : (test : Bool) (waited : Ticks) → Apart
-          (cond test (fresh Listening (station .own)) (joiningWait station (later detectionWait (station .elapsed)) waited))
-      by true waited = fresh-apart Listening (station .own)
-      by false waited =
-          falls-apart (later detectionWait (station .elapsed)) waited (station .panel) (station .waited) waited
-          (λ z. second (eqb (station .rounds) 3) (leb (numberWait (station .own .number)) (waited .0)) (rw e at z))
-          (λ z f. rw e (both (first (eqb (station .rounds) 3) (leb (numberWait (station .own .number)) (waited .0)) (rw e at z)) f))
-
-  participant-tick : station .phase ≡ Participating → Apart (participantTick station (later longestWatch (station .elapsed)))
-  participant-tick e = by (watchEnds station)
-    where
-      clear : Clear (station .own .areas) (station .members)
-      clear = apart .ours (rw e)
-
-      by : (test : Bool) → Apart
-          (cond test
-          (watchEnded station)
-          (counted station (station .own) (later longestWatch (station .elapsed)) (station .waited) (ticked (station .panel))))
-      by true = record {
-        listed = disjoint-missed (station .members) (station .view) (apart .listed);
-        ours = λ z. clear-missed (station .members) (station .view) (station .own .areas) clear;
-      }
-      by false = record { listed = apart .listed; ours = λ z. clear }
-
-  tick-in : (phase : Phase) → station .phase ≡ phase → Apart (tickedBy phase station)
-  tick-in Off e = apart
-  tick-in Listening e = record { listed = apart .listed; ours = λ z. absurd (false≢true (rw e at z)) }
-  tick-in Startup e = startup-tick e
-  tick-in Joining e = joining-tick e
-  tick-in Participating e = participant-tick e
+  apart-in : {result : Ticking} → TickCases station result → Apart (result .station)
+  apart-in (off e) = apart
+  apart-in (listens e) = record { listed = apart .listed; ours = λ z. absurd (false≢true (rw e at z)) }
+  apart-in (starts e t) =
+      falls-apart (later acceptanceTime (station .elapsed)) (station .waited) (station .panel) (station .elapsed) (later acceptanceTime (station .elapsed))
+      (λ z. rw e at z) (λ z f. rw e f)
+  apart-in (lapses e t) = fresh-apart Listening (station .own)
+  apart-in (begins e t) =
+      let long = leb-true acceptanceTime (min acceptanceTime (station .elapsed .0 + 1)) t in
+      let small = station-to (station .own .number) (ok .ours (rw e) .number) in
+      let come : numberWait (station .own .number) ≤ station .elapsed .0 = omega arith in
+      record { listed = apart .listed; ours = λ z. apart .ours (rw e (le-leb _ _ come)) }
+  apart-in (givesUp e t) = fresh-apart Listening (station .own)
+  apart-in (learns e t r) = joining-apart e (station .waited)
+  apart-in (waits e t r) = joining-apart e (later (numberWait (station .own .number)) (station .waited))
+  apart-in (ends e t) = record {
+    listed = disjoint-missed (station .members) (station .view) (apart .listed);
+    ours = λ z. clear-missed (station .members) (station .view) (station .own .areas) (apart .ours (rw e));
+  }
+  apart-in (runs e t) = record { listed = apart .listed; ours = λ z. apart .ours (rw e) }
 
   pub tick-apart : Apart (tickOf station .station)
-  tick-apart = tick-in (station .phase) refl
+  tick-apart = apart-in (tick-cases station)

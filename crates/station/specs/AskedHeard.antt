@@ -1,6 +1,6 @@
 -- Every frame asked for is accepted by whoever knows its sender and its destination. Assumes nothing.
 use mathlib.Core.Path.{_≡_, refl, ap, _∙_}
-use mathlib.Core.Bool.{Bool, true, false, not, _&&_, _||_, and-false, and-true}
+use mathlib.Core.Bool.{true, false, not, _&&_, _||_, and-false, and-true}
 use mathlib.Core.List.{List}
 use Prim.Native.Nat.{ℕ}
 use native.Mathlib.Omega.{arith}
@@ -12,13 +12,13 @@ use Rattle.frame.specs.Codes.{isToken, isCyclic}
 use Rattle.frame.specs.declared.Code.{Code}
 use Rattle.frame.specs.declared.Code.the-variants.{Token, Cyclic, Request, Trigger}
 use Rattle.frame.specs.declared.Fields.{Fields}
-use Rattle.frame.specs.declared.Refusal.the-variants as refusals
 use Rattle.laws.specs.Tests.{both}
 use Rattle.reading.specs.Reading.{readOf, readHeaderOf, readBodyOf, dataOf}
 use Rattle.reading.specs.declared.Read.the-variants.{Frame}
 use Rattle.round_trip.specs.Accepted.{Accepted, accepted as passed}
+use Rattle.station.specs.AskCases.{triggers, requests, begins, passes, AskCases, refuses, sends, ask-cases}
 use Rattle.station.specs.Asked.{CanSend, asked-back}
-use Rattle.station.specs.Asking.{lentRight as lentRightToAsk, isPlaced, dueIn, askOf, dueFields}
+use Rattle.station.specs.Asking.{isPlaced, dueIn, askOf, dueFields, Asking}
 use Rattle.station.specs.Calls.{hear, taken, verdict, heardVerdict}
 use Rattle.station.specs.Data.{gathered}
 use Rattle.station.specs.Hearing.{Hearing, isTaken, isStranger, knows, lentRight, participantHeard, accepted, hearOf}
@@ -27,9 +27,8 @@ use Rattle.station.specs.ListKept.{next-station}
 use Rattle.station.specs.Reachable.{Reachable}
 use Rattle.station.specs.Refusing.{accepted-taken}
 use Rattle.station.specs.State.{isParticipating, isOff, holds}
-use Rattle.station.specs.declared.Asked.the-variants.{Octets, Refused}
-use Rattle.station.specs.declared.Phase.{Phase}
-use Rattle.station.specs.declared.Phase.the-variants.{Off, Listening, Startup, Joining, Participating}
+use Rattle.station.specs.declared.Asked.the-variants.{Octets}
+use Rattle.station.specs.declared.Phase.the-variants.{Participating}
 use Rattle.station.specs.declared.Station.{Station}
 
 -- octets that are read as fields pass both parts of the reading
@@ -105,29 +104,20 @@ holder-due station reached e =
     rw (e, placed) (and-true (holds station))
 
 -- an off station has no frame due
-asked-on : (station : Station) (memory turn output : List ℕ) (count : ℕ) → askOf station memory turn output .answer ≡ Octets count →
-    isOff (station .phase) ≡ false
-asked-on station memory turn output count = by (station .phase) refl (lentRightToAsk memory turn output) refl
-  where
-    by : (phase : Phase) → station .phase ≡ phase → (lent : Bool) → lentRightToAsk memory turn output ≡ lent →
-        askOf station memory turn output .answer ≡ Octets count → isOff phase ≡ false
-    by Off p true q e =
-        let none : askOf station memory turn output .answer ≡ Refused refusals.NotDue = rw (q, p) in
-        let z : _≡_ {A = ℕ} 0 1 = cc in absurd (omega arith)
-    by Off p false q e =
-        let none : askOf station memory turn output .answer ≡ Refused refusals.Buffer = rw (q) in
-        let z : _≡_ {A = ℕ} 0 1 = cc in absurd (omega arith)
-    by Listening p lent q e = refl
-    by Startup p lent q e = refl
-    by Joining p lent q e = refl
-    by Participating p lent q e = refl
+asked-on : {station : Station} {memory turn output : List ℕ} {result : Asking} {count : ℕ} → AskCases station memory turn output result →
+    result .answer ≡ Octets count → isOff (station .phase) ≡ false
+asked-on (refuses refusal) a = let z : _≡_ {A = ℕ} 0 1 = cc in absurd (omega arith)
+asked-on (sends lent is (triggers e due)) a = rw e
+asked-on (sends lent is (requests e fallen)) a = rw e
+asked-on (sends lent is (begins e fallen)) a = rw e
+asked-on (sends lent is (passes e held placed)) a = rw e
 
 -- Of every state that calls can leave: what an asking writes reads back to the fields of the frame that is due,
 pub frame-asked : (station : Station) → Reachable station → (memory turn output : List ℕ) (count : ℕ) →
     askOf station memory turn output .answer ≡ Octets count →
     readOf (take count (askOf station memory turn output .output)) ≡ Frame (dueFields (station .phase) station)
 frame-asked station reached memory turn output count e =
-    asked-back station memory turn output count (can-send station reached (asked-on station memory turn output count e)) e
+    asked-back station memory turn output count (can-send station reached (asked-on (ask-cases station memory turn output) e)) e
 
 -- and every participant that lists the sender, and lists the destination or is it, and is not the sender, accepts it; a request or a trigger
 -- is accepted by every participant that is not the sender.

@@ -9,21 +9,15 @@ use lib.ListN.{length, take}
 use borrow.Author.Tests.{eqb-true}
 use Rattle.block.specs.Blocks.{startOf}
 use Rattle.frame.specs.Codes.{isCyclic}
-use Rattle.frame.specs.declared.Code.{Code}
-use Rattle.frame.specs.declared.Code.the-variants.{Token, Cyclic, Request, Trigger}
 use Rattle.frame.specs.declared.Fields.{Fields}
 use Rattle.reading.specs.Reading as reading
 use Rattle.reading.specs.Reading.{readHeaderOf, readBodyOf}
 use Rattle.reading.specs.declared.Read.the-variants.{Frame}
 use Rattle.station.specs.Data.{without}
-use Rattle.station.specs.Hearing.{enters}
 use Rattle.station.specs.State.{nothing}
 use Rattle.station.specs.declared.Gathering.{Gathering}
 use Rattle.station.specs.declared.Heard.{Heard}
 use Rattle.station.specs.declared.Heard.the-variants as answers
-use Rattle.station.specs.declared.Phase.{Phase}
-use Rattle.station.specs.declared.Phase.the-variants.{Off, Listening, Startup, Joining, Participating}
-use Rattle.station.specs.declared.Station.{Station}
 
 -- a list of the cyclic frames that were accepted, the latest first, after one more hearing
 abbrev pub acceptedAfter : Heard → List ℕ → List (List ℕ) → List (List ℕ)
@@ -53,26 +47,6 @@ gathers-without {heard} source gathering assembly g = by (eqb source (gathering 
     by : (same : Bool) → Gathers heard (cond same nothing gathering) assembly
     by true = gathers-nothing assembly
     by false = g
-
-pub enters-gathers : {heard : List (List ℕ)} (phase : Phase) (code : Code) (station : Station) (frame : Fields) (assembly : List ℕ) → Gathers heard (station .gathering) assembly
-    → Gathers heard (enters phase code station frame .gathering) assembly
-enters-gathers Off code station frame assembly g = g
-enters-gathers Listening Token station frame assembly g = gathers-nothing assembly
-enters-gathers Listening Cyclic station frame assembly g = g
-enters-gathers Listening Request station frame assembly g = g
-enters-gathers Listening Trigger station frame assembly g = gathers-nothing assembly
-enters-gathers Startup Token station frame assembly g = gathers-nothing assembly
-enters-gathers Startup Cyclic station frame assembly g = g
-enters-gathers Startup Request station frame assembly g = gathers-without (frame .source) (station .gathering) assembly g
-enters-gathers Startup Trigger station frame assembly g = g
-enters-gathers Joining Token station frame assembly g = g
-enters-gathers Joining Cyclic station frame assembly g = g
-enters-gathers Joining Request station frame assembly g = g
-enters-gathers Joining Trigger station frame assembly g = g
-enters-gathers Participating Token station frame assembly g = g
-enters-gathers Participating Cyclic station frame assembly g = g
-enters-gathers Participating Request station frame assembly g = gathers-without (frame .source) (station .gathering) assembly g
-enters-gathers Participating Trigger station frame assembly g = g
 
 -- the blocks before one that is next
 pub before-next : {heard : List (List ℕ)} (gathering : Gathering) (frame : Fields) (assembly : List ℕ) → Gathers heard gathering assembly → eqb (frame .source) 0 ≡ false

@@ -1,30 +1,30 @@
 -- What a frame that is not refused keeps, but for a participant's data. Assumes nothing.
-use mathlib.Core.Path.{_≡_, refl, sym, ap, _∙_}
+use mathlib.Core.Path.{_≡_, refl, sym, ap, _∙_, subst}
 use mathlib.Core.Bool.{Bool, true, false, cond, _&&_, false≢true}
 use mathlib.Core.List.{List}
 use Prim.Native.Nat.{ℕ, _+_, _≤_, _<_, min}
 use native.Mathlib.Omega.{arith}
 use lib.Dec.{eqb, leb, ltb}
 use lib.ListN.{getD}
-use borrow.Author.Tests.{leb-true, le-leb, eqb-true, eqb-false, ne-eqb}
+use borrow.Author.Tests.{leb-true, eqb-true, eqb-false, ne-eqb, leb-false}
 use Rattle.area.specs.Areas.{inRange}
 use Rattle.area.specs.declared.Areas.{Areas}
-use Rattle.block.specs.Blocks.{blocksOf}
+use Rattle.block.specs.Blocks.{blocksOf, octetsOf}
 use Rattle.frame.specs.Codes.{isToken, isCyclic, carriesAreas}
 use Rattle.frame.specs.Positions.{TW}
-use Rattle.frame.specs.declared.Code.{Code}
-use Rattle.frame.specs.declared.Code.the-variants.{Token, Cyclic, Request, Trigger}
+use Rattle.frame.specs.declared.Code.the-variants.{Token}
 use Rattle.frame.specs.declared.Fields.{Fields}
-use Rattle.laws.specs.Tests.{both, first, second}
+use Rattle.laws.specs.Tests.{first, second}
 use Rattle.members.specs.Listing.{listing}
 use Rattle.members.specs.declared.Members.{Members}
 use Rattle.reading.specs.Reading.{isStation, fieldsOf}
 use Rattle.round_trip.specs.Accepted.{Accepted}
-use Rattle.round_trip.specs.Shown.{source-is, destination-is, areas-are, block-is}
+use Rattle.round_trip.specs.Shown.{source-is, destination-is, areas-are, block-is, cyclic-carries}
 use Rattle.writing.specs.Writing.{noAreas}
 use Rattle.station.specs.Data.{sameAreas}
-use Rattle.station.specs.Hearing.{relisted, requested, enters}
-use Rattle.station.specs.KeepsStarting.{blank-shown, number-to, startup-sound}
+use Rattle.station.specs.HearCases.{EnterCases, off, begins, joins, passes, reads, lists, ignores, awaits-on, lists-on}
+use Rattle.station.specs.Hearing.{relisted, requested}
+use Rattle.station.specs.KeepsStarting.{blank-shown, startup-sound, station-to}
 use Rattle.station.specs.ListKept.{empty-kept, listing-kept, placed-with}
 use Rattle.station.specs.Reachable.{Ours, Listed, Placed, Shown, Sound}
 use Rattle.station.specs.Starting.{requestFallen, oursDue, endsRound, joinedBy}
@@ -32,6 +32,7 @@ use Rattle.station.specs.State.{isOff, isParticipating, nothing, noTicks
 use Rattle.station.specs.Token.{viewHeard}
 use Rattle.station.specs.Waits.{detectionWait, numberWait}
 use Rattle.station.specs.declared.Gathering.{Gathering}
+use Rattle.station.specs.declared.Heard.{Heard}
 use Rattle.station.specs.declared.Phase.{Phase}
 use Rattle.station.specs.declared.Phase.the-variants.{Off, Listening, Startup, Joining, Participating}
 use Rattle.station.specs.declared.Station.{Station}
@@ -74,7 +75,7 @@ module _ (station : Station) (frame : Fields) (fits : Fit frame) where
   joined-sound ours list three below most early seen none other carries shown = record {
     list = listed (ltb (station .rounds) 3);
     empty = λ e. absurd (false≢true e);
-    number = number-to (station .own) ours;
+    number = station-to (station .own .number) (ours .number);
     ours = λ e. ours;
     rounds = counted (endsRound frame);
     elapsed = ticks (isToken (frame .code));
@@ -111,25 +112,30 @@ module _ (station : Station) (frame : Fields) (fits : Fit frame) where
       view true e = fits .destination e
       view false e = seen e
 
--- the smaller of two stations' numbers
-min-station : (a b : ℕ) → isStation a ≡ true → isStation b ≡ true → isStation (min a b) ≡ true
-min-station a b p q =
-    let a1 = leb-true 1 a (first (leb 1 a) (leb a 254) p) in
-    let a2 = leb-true a 254 (second (leb 1 a) (leb a 254) p) in
-    let b1 = leb-true 1 b (first (leb 1 b) (leb b 254) q) in
-    let b2 = leb-true b 254 (second (leb 1 b) (leb b 254) q) in
-    let m1 : 1 ≤ min a b = omega arith in
-    let m2 : min a b ≤ 254 = omega arith in
-    both (le-leb 1 (min a b) m1) (le-leb (min a b) 254 m2)
+-- what holds of the view, and of the destination of a token frame, holds of the view after a frame
+pub view-has : (P : ℕ → Type 0) (view : ℕ) (frame : Fields) → P view → (isToken (frame .code) ≡ true → P (frame .destination)) → P (viewHeard view frame)
+view-has P view frame seen destination = by (isToken (frame .code)) refl (eqb (frame .source) view)
+  where
+    smaller : (a b : ℕ) → P a → P b → (test : Bool) → leb a b ≡ test → P (min a b)
+    smaller a b p q true t = let h = leb-true a b t in let s : a ≡ min a b = omega arith in subst P s p
+    smaller a b p q false t = let h = leb-false a b t in let s : b ≡ min a b = omega arith in subst P s q
 
--- the same sizes make the same blocks
-pub same-blocks : (a b : Areas) → sameAreas a b ≡ true → blocksOf a ≡ blocksOf b
-same-blocks a b e =
+    by : (token : Bool) → isToken (frame .code) ≡ token → (same : Bool) → P (cond token (cond same (frame .destination) (min view (frame .destination))) view)
+    by true t true = destination t
+    by true t false = smaller view (frame .destination) seen (destination t) (leb view (frame .destination)) refl
+    by false t same = seen
+
+-- the same sizes make the same turn, and the same blocks
+pub same-octets : (a b : Areas) → sameAreas a b ≡ true → octetsOf a ≡ octetsOf b
+same-octets a b e =
     let one = first (eqb (a .one .address) (b .one .address) && eqb (a .one .size) (b .one .size)) (eqb (a .two .address) (b .two .address) && eqb (a .two .size) (b .two .size)) e in
     let two = second (eqb (a .one .address) (b .one .address) && eqb (a .one .size) (b .one .size)) (eqb (a .two .address) (b .two .address) && eqb (a .two .size) (b .two .size)) e in
     let p = eqb-true (a .one .size) (b .one .size) (second (eqb (a .one .address) (b .one .address)) (eqb (a .one .size) (b .one .size)) one) in
     let q = eqb-true (a .two .size) (b .two .size) (second (eqb (a .two .address) (b .two .address)) (eqb (a .two .size) (b .two .size)) two) in
     rw (p, q)
+
+pub same-blocks : (a b : Areas) → sameAreas a b ≡ true → blocksOf a ≡ blocksOf b
+same-blocks a b e = rw (same-octets a b e)
 
 -- another list alters nothing of whether our request has fallen due
 pub same-fallen : (phase : Phase) (station : Station) (members : Members) (gathering : Gathering)
@@ -140,24 +146,24 @@ same-fallen Startup station members gathering = refl
 same-fallen Joining station members gathering = refl
 same-fallen Participating station members gathering = refl
 
--- a frame of another station, heard by a station that is not off
-module _ (station : Station) (frame : Fields) (ok : Sound station) (fits : Fit frame) (on : isOff (station .phase) ≡ false)
-    (other : eqb (frame .source) (station .own .number) ≡ false) where
+-- a frame that is of another station, unless we are off
+module _ (station : Station) (frame : Fields) (ok : Sound station) (fits : Fit frame)
+    (other : isOff (station .phase) ≡ false → eqb (frame .source) (station .own .number) ≡ false) where
   -- a first token frame begins joining
-  enters-joining : frame .code ≡ Token → Sound (joinedBy (fresh Joining (station .own)) frame)
-  enters-joining c =
+  enters-joining : isOff (station .phase) ≡ false → frame .code ≡ Token → Sound (joinedBy (fresh Joining (station .own)) frame)
+  enters-joining on c =
       joined-sound (fresh Joining (station .own)) frame fits (ok .ours on) (empty-kept (station .own .number)) (omega arith) (omega arith) (omega arith)
-      (λ e. refl) (λ e. absurd (false≢true (sym e ∙ rw c))) refl other (rw c) blank-shown
+      (λ e. refl) (λ e. absurd (false≢true (sym e ∙ rw c))) refl (other on) (rw c) blank-shown
 
   goes-on-joining : station .phase ≡ Joining → carriesAreas (frame .code) ≡ true → Sound (joinedBy station frame)
   goes-on-joining e carries =
-      joined-sound station frame fits (ok .ours on) (ok .list) (ok .rounds) (rw e at (ok .elapsed)) (ok .waited)
-      (ok .unwaited) (λ t. ok .view (rw e)) (ok .ungathered (rw e)) other carries (ok .panel)
+      joined-sound station frame fits (ok .ours (rw e)) (ok .list) (ok .rounds) (rw e at (ok .elapsed)) (ok .waited)
+      (ok .unwaited) (λ t. ok .view (rw e)) (ok .ungathered (rw e)) (other (rw e)) carries (ok .panel)
 
   -- a request that is listed
-  requested-sound : carriesAreas (frame .code) ≡ true → Sound (requested station frame)
-  requested-sound carries = record {
-    list = listing-kept (frame .source) (frame .areas) (frame .watch) (oursDue station) (ok .list) (fits .source) other (fits .areas carries) (fits .watch);
+  requested-sound : isOff (station .phase) ≡ false → carriesAreas (frame .code) ≡ true → Sound (requested station frame)
+  requested-sound on carries = record {
+    list = listing-kept (frame .source) (frame .areas) (frame .watch) (oursDue station) (ok .list) (fits .source) (other on) (fits .areas carries) (fits .watch);
     empty = λ e. absurd (false≢true (sym on ∙ e));
     number = ok .number;
     ours = ok .ours;
@@ -186,32 +192,12 @@ module _ (station : Station) (frame : Fields) (ok : Sound station) (fits : Fit f
       none e true = refl
       none e false = ok .ungathered e
 
-  -- a frame that a participant does not take as a cyclic one
-  pub enters-sound : (phase : Phase) (code : Code) → station .phase ≡ phase → frame .code ≡ code → Sound (enters phase code station frame)
-  enters-sound Off code e c = ok
-  enters-sound Listening Token e c = enters-joining c
-  enters-sound Listening Cyclic e c = ok
-  enters-sound Listening Request e c = ok
-  enters-sound Listening Trigger e c = startup-sound (station .own) (ok .ours on)
-  enters-sound Startup Token e c = enters-joining c
-  enters-sound Startup Cyclic e c = ok
-  enters-sound Startup Request e c = requested-sound (rw c)
-  enters-sound Startup Trigger e c = ok
-  enters-sound Joining Token e c = goes-on-joining e (rw c)
-  enters-sound Joining Cyclic e c = goes-on-joining e (rw c)
-  enters-sound Joining Request e c = ok
-  enters-sound Joining Trigger e c = ok
-  enters-sound Participating Token e c = ok
-  enters-sound Participating Cyclic e c = ok
-  enters-sound Participating Request e c = requested-sound (rw c)
-  enters-sound Participating Trigger e c = ok
-
-  -- the view after a token frame
-  pub view-station : isStation (station .view) ≡ true → isStation (viewHeard (station .view) frame) ≡ true
-  view-station seen = by (isToken (frame .code)) refl (eqb (frame .source) (station .view))
-    where
-      by : (token : Bool) → isToken (frame .code) ≡ token → (same : Bool)
-          → isStation (cond token (cond same (frame .destination) (min (station .view) (frame .destination))) (station .view)) ≡ true
-      by true t true = fits .destination t
-      by true t false = min-station (station .view) (frame .destination) seen (fits .destination t)
-      by false t same = seen
+  -- a frame that a participant does not gather from
+  pub enters-sound : {left : Station} {answer : Heard} → EnterCases station frame left answer → Sound left
+  enters-sound (off e) = ok
+  enters-sound (begins e c) = startup-sound (station .own) (ok .ours (rw e))
+  enters-sound (joins e c) = enters-joining (awaits-on e) c
+  enters-sound (passes e c) = ok
+  enters-sound (reads e c) = goes-on-joining e (cyclic-carries (frame .code) c)
+  enters-sound (lists e c) = requested-sound (lists-on e) (rw c)
+  enters-sound (ignores e) = ok

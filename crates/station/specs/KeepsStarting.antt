@@ -1,23 +1,21 @@
 -- What the beginning of each phase has, and that start and stop keep what holds in every state. Assumes nothing.
 use mathlib.Core.Path.{_≡_, refl, sym, _∙_}
-use mathlib.Core.Bool.{Bool, true, false, cond, not, _&&_, false≢true}
+use mathlib.Core.Bool.{Bool, true, false, cond, false≢true}
 use Prim.Native.Nat.{ℕ, _≤_, _<_}
 use native.Mathlib.Omega.{arith}
-use lib.Dec.{eqb, leb, ltb}
+use lib.Dec.{eqb, leb}
 use borrow.Author.Tests.{leb-true, ltb-true}
-use Rattle.area.specs.Areas.{inRange}
 use Rattle.block.specs.Blocks.{blocksOf}
-use Rattle.frame.specs.declared.Refusal.{Refusal}
-use Rattle.frame.specs.declared.Refusal.the-variants as refusals
-use Rattle.laws.specs.Tests.{first, second}
+use Rattle.laws.specs.Tests.{second, first}
 use Rattle.members.specs.declared.Members.{Members}
 use Rattle.panel.specs.Panel.{blank, taken, ticked}
 use Rattle.panel.specs.declared.Panel.{Panel}
 use Rattle.reading.specs.Reading.{isStation}
 use Rattle.station.specs.ListKept.{none-listed, empty-kept}
 use Rattle.station.specs.Reachable.{TypedSettings, Ours, Listed, Placed, Shown, hasView, limitOf, Sound}
-use Rattle.station.specs.Starting.{Switching, need, startOf, stopOf}
+use Rattle.station.specs.Starting.{startOf, stopOf}
 use Rattle.station.specs.State.{isOff, fresh, begun}
+use Rattle.station.specs.SwitchCases.{switched-to, start-cases, stop-cases}
 use Rattle.station.specs.Token.{takes, restarted}
 use Rattle.station.specs.declared.Gathering.{Gathering}
 use Rattle.station.specs.declared.Phase.{Phase}
@@ -36,8 +34,12 @@ taken-shown false shown = shown
 pub ticked-shown : {panel : Panel} → Shown panel → Shown (ticked panel)
 ticked-shown shown = record { takings = shown .takings; running = omega arith; gap = shown .gap }
 
-pub number-to : (own : Settings) → Ours own → own .number ≤ 254
-number-to own ours = leb-true (own .number) 254 (second (leb 1 (own .number)) (leb (own .number) 254) (ours .number))
+-- numbers 1 to 254
+pub station-from : (number : ℕ) → isStation number ≡ true → 1 ≤ number
+station-from number e = leb-true 1 number (first (leb 1 number) (leb number 254) e)
+
+pub station-to : (number : ℕ) → isStation number ≡ true → number ≤ 254
+station-to number e = leb-true number 254 (second (leb 1 number) (leb number 254) e)
 
 -- a phase that begins with an empty list
 pub fresh-sound : (phase : Phase) (own : Settings) → own .number ≤ 254 → 0 < limitOf phase (own .number) (own .watch) → hasView phase ≡ false → (isOff phase ≡ false → Ours own)
@@ -65,33 +67,19 @@ pub off-sound : (own : Settings) → own .number ≤ 254 → Sound (fresh Off ow
 off-sound own number = fresh-sound Off own number (omega arith) refl (λ e. absurd (false≢true (sym e)))
 
 pub listening-sound : (own : Settings) → Ours own → Sound (fresh Listening own)
-listening-sound own ours = fresh-sound Listening own (number-to own ours) (omega arith) refl (λ e. ours)
+listening-sound own ours = fresh-sound Listening own (station-to (own .number) (ours .number)) (omega arith) refl (λ e. ours)
 
 pub startup-sound : (own : Settings) → Ours own → Sound (fresh Startup own)
-startup-sound own ours = fresh-sound Startup own (number-to own ours) (omega arith) refl (λ e. ours)
-
--- a test that refuses alters nothing
-need-sound : (test : Bool) (refusal : Refusal) (station : Station) (rest : Switching) → Sound station → (test ≡ true → Sound (rest .station))
-    → Sound (need test refusal station rest .station)
-need-sound true refusal station rest ok more = more refl
-need-sound false refusal station rest ok more = ok
+startup-sound own ours = fresh-sound Startup own (station-to (own .number) (ours .number)) (omega arith) refl (λ e. ours)
 
 pub start-sound : (station : Station) (own : Settings) → TypedSettings own → Sound station → Sound (startOf station own .station)
-start-sound station own typed ok =
-    need-sound (isOff (station .phase)) refusals.NotDue station _ ok (λ a.
-    need-sound (isStation (own .number) && ltb 0 (own .watch .0)) refusals.Address station _ ok (λ b.
-    need-sound (inRange (own .areas)) refusals.Area station _ ok (λ c.
-    let some = ltb-true 0 (own .watch .0) (second (isStation (own .number)) (ltb 0 (own .watch .0)) b) in
+start-sound station own typed ok = switched-to Sound (start-cases station own) ok (λ starts.
+    let some = ltb-true 0 (own .watch .0) (starts .watch) in
     let small = typed .watch in
-    listening-sound own (record {
-      number = first (isStation (own .number)) (ltb 0 (own .watch .0)) b;
-      watch-from = omega arith;
-      watch-to = omega arith;
-      areas = c;
-    }))))
+    listening-sound own (record { number = starts .number; watch-from = omega arith; watch-to = omega arith; areas = starts .areas }))
 
 pub stop-sound : (station : Station) → Sound station → Sound (stopOf station .station)
-stop-sound station ok = need-sound (not (isOff (station .phase))) refusals.NotDue station _ ok (λ a. off-sound _ (ok .number))
+stop-sound station ok = switched-to Sound (stop-cases station) ok (λ on. off-sound _ (ok .number))
 
 -- we begin to participate
 pub begun-sound : (own : Settings) (members : Members) (view : ℕ) → Ours own → Listed (own .number) members → isStation view ≡ true
@@ -101,7 +89,7 @@ begun-sound own members view ours list seen =
     record {
       list = list;
       empty = λ e. absurd (false≢true e);
-      number = number-to own ours;
+      number = station-to (own .number) (ours .number);
       ours = λ e. ours;
       rounds = omega arith;
       elapsed = omega arith;

@@ -1,25 +1,24 @@
 -- A tick keeps what holds in every state. Assumes nothing.
 use mathlib.Core.Path.{_≡_, refl, sym, _∙_}
 use mathlib.Core.Bool.{Bool, true, false, cond, _&&_, false≢true}
-use mathlib.Core.List.{List, [], _∷_}
-use Prim.Native.Nat.{ℕ, _+_, _≤_, _<_, min}
+use Prim.Native.Nat.{_+_, _≤_, _<_, min}
 use native.Mathlib.Omega.{arith}
 use lib.Dec.{eqb, leb, ltb}
 use borrow.Author.Tests.{leb-true, leb-false, le-leb, eqb-false}
 use Rattle.laws.specs.Tests.{both, first, second}
 use Rattle.members.specs.Listing.{bare, overlapsListed}
-use Rattle.members.specs.Members.{nobody, isListed, numbersOf, strikes, missed, struck, entryOf, withEntry, missesSet, smallest, nextAfter}
-use Rattle.members.specs.declared.Members.{Members}
+use Rattle.members.specs.Members.{nobody, isListed, strikes, missed, struck, entryOf, withEntry, missesSet, smallest, nextAfter}
 use Rattle.panel.specs.Panel.{ticked}
 use Rattle.panel.specs.declared.Panel.{Panel}
 use Rattle.units.specs.declared.Ticks.{Ticks}
 use Rattle.station.specs.Data.{without}
 use Rattle.station.specs.KeepsStarting.{ticked-shown, listening-sound, begun-sound, restarted-sound}
 use Rattle.station.specs.ListKept.{missed-kept, next-station, smallest-station, bare-range, placed-with, placed-misses}
-use Rattle.station.specs.Reachable.{Ours, Listed, Placed, Shown, limitOf, Sound}
-use Rattle.station.specs.Starting.{requestFallen, startedUp}
-use Rattle.station.specs.State.{isParticipating, nothing, fresh}
-use Rattle.station.specs.Ticking.{later, counted, fallsDue, startupTick, joiningWait, joiningTick, watchEnded, watchEnds, participantTick, tickedBy, tickOf}
+use Rattle.station.specs.Reachable.{Placed, Shown, limitOf, Sound}
+use Rattle.station.specs.Starting.{requestFallen}
+use Rattle.station.specs.State.{isParticipating, nothing}
+use Rattle.station.specs.TickCases.{TickCases, off, listens, starts, lapses, begins, givesUp, learns, waits, ends, runs, tick-cases}
+use Rattle.station.specs.Ticking.{later, counted, fallsDue, tickOf, Ticking}
 use Rattle.station.specs.Waits.{detectionWait, acceptanceTime, numberWait, listeningTime, watchTicks, longestWatch}
 use Rattle.station.specs.declared.Phase.{Phase}
 use Rattle.station.specs.declared.Phase.the-variants.{Off, Listening, Startup, Joining, Participating}
@@ -102,62 +101,7 @@ module _ (station : Station) (elapsed waited : Ticks) (panel : Panel) (ok : Soun
       due-sound before (ltb (from .0) (numberWait (station .own .number)) && leb (numberWait (station .own .number)) (to .0))
       (overlapsListed (station .members) (station .own .areas))
 
-started-sound : (own : Settings) (members : Members) (numbers : List ℕ) → Ours own → Listed (own .number) members → Sound (startedUp own members numbers)
-started-sound own members [] ours list = listening-sound own ours
-started-sound own members (number ∷ rest) ours list =
-    begun-sound own members (smallest (own .number) members) ours list (smallest-station list (ours .number))
-
 module _ (station : Station) (ok : Sound station) where
-  startup-tick : station .phase ≡ Startup → Sound (startupTick station (later acceptanceTime (station .elapsed)))
-  startup-tick e = by (leb acceptanceTime (min acceptanceTime (station .elapsed .0 + 1))) refl
-    where
-      ours : Ours (station .own)
-      ours = ok .ours (rw e)
-
-      asked : station .sent ≡ true → requestFallen (station .phase)
-          (counted station (station .own) (later acceptanceTime (station .elapsed)) (station .waited) (station .panel)) ≡ true
-      asked s =
-          let come = leb-true (numberWait (station .own .number)) (station .elapsed .0) (rw e at (ok .sent s)) in
-          let below : station .elapsed .0 < acceptanceTime = rw e at (ok .elapsed) in
-          rw e (le-leb (numberWait (station .own .number)) (min acceptanceTime (station .elapsed .0 + 1)) (omega arith))
-
-      by : (test : Bool) → leb acceptanceTime (min acceptanceTime (station .elapsed .0 + 1)) ≡ test → Sound
-          (cond test
-          (startedUp (station .own) (station .members) (numbersOf (station .members)))
-          (counted station (fallsDue station (station .elapsed) (later acceptanceTime (station .elapsed))) (later acceptanceTime (station .elapsed)) (station .waited) (station .panel)))
-      by true t = started-sound (station .own) (station .members) (numbersOf (station .members)) ours (ok .list)
-      by false t =
-          falls-sound station (later acceptanceTime (station .elapsed)) (station .waited) (station .panel) ok
-          (rw e (leb-false acceptanceTime (min acceptanceTime (station .elapsed .0 + 1)) t)) (ok .waited) (ok .unwaited) (ok .panel) asked (rw e)
-          (station .elapsed) (later acceptanceTime (station .elapsed))
-
-  joining-tick : station .phase ≡ Joining → Sound (joiningTick station (later detectionWait (station .elapsed)))
-  joining-tick e = by (leb detectionWait (min detectionWait (station .elapsed .0 + 1))) refl (eqb (station .rounds) 3) refl
-    where
-      longer : station .sent ≡ true → requestFallen (station .phase)
-          (counted station (station .own) (later detectionWait (station .elapsed)) (later (numberWait (station .own .number)) (station .waited)) (station .panel))
-          ≡ true
-      longer s =
-          let fell = rw e at (ok .sent s) in
-          let come = leb-true (numberWait (station .own .number)) (station .waited .0)
-          (second (eqb (station .rounds) 3) (leb (numberWait (station .own .number)) (station .waited .0)) fell) in
-          rw e (both (first (eqb (station .rounds) 3) (leb (numberWait (station .own .number)) (station .waited .0)) fell)
-          (le-leb (numberWait (station .own .number)) (min (numberWait (station .own .number)) (station .waited .0 + 1)) (omega arith)))
-
-      by : (test : Bool) → leb detectionWait (min detectionWait (station .elapsed .0 + 1)) ≡ test → (third : Bool) → eqb (station .rounds) 3 ≡ third → Sound
-          (cond test
-          (fresh Listening (station .own))
-          (joiningWait station (later detectionWait (station .elapsed)) (cond third (later (numberWait (station .own .number)) (station .waited)) (station .waited))))
-      by true t third r = listening-sound (station .own) (ok .ours (rw e))
-      by false t true r =
-          falls-sound station (later detectionWait (station .elapsed)) (later (numberWait (station .own .number)) (station .waited)) (station .panel) ok
-          (rw e (leb-false detectionWait (min detectionWait (station .elapsed .0 + 1)) t)) (omega arith) (λ z. absurd (false≢true (sym z ∙ r))) (ok .panel) longer (rw e)
-          (station .waited) (later (numberWait (station .own .number)) (station .waited))
-      by false t false r =
-          falls-sound station (later detectionWait (station .elapsed)) (station .waited) (station .panel) ok
-          (rw e (leb-false detectionWait (min detectionWait (station .elapsed .0 + 1)) t)) (ok .waited) (ok .unwaited) (ok .panel)
-          (λ s. rw e (rw e at (ok .sent s))) (rw e) (station .waited) (station .waited)
-
   -- what was gathered when the watch ends
   struck-placed : (listed strike same : Bool) → eqb (station .view) (station .gathering .source) ≡ same
       → eqb (cond (listed && strike) (cond same nothing (station .gathering)) (station .gathering) .source) 0 ≡ false
@@ -175,40 +119,65 @@ module _ (station : Station) (ok : Sound station) where
   struck-placed true false same s e = placed-misses (ok .gathering e) (station .view) (entryOf (station .members) (station .view) .misses + 1)
   struck-placed false strike same s e = ok .gathering e
 
-  participant-tick : station .phase ≡ Participating → Sound (participantTick station (later longestWatch (station .elapsed)))
-  participant-tick e = by (watchEnds station) refl
-    where
-      ours : Ours (station .own)
-      ours = ok .ours (rw e)
+  -- a request that was sent stays fallen due
+  startup-asked : station .phase ≡ Startup → station .sent ≡ true → requestFallen (station .phase)
+      (counted station (station .own) (later acceptanceTime (station .elapsed)) (station .waited) (station .panel)) ≡ true
+  startup-asked e s =
+      let come = leb-true (numberWait (station .own .number)) (station .elapsed .0) (rw e at (ok .sent s)) in
+      let below : station .elapsed .0 < acceptanceTime = rw e at (ok .elapsed) in
+      rw e (le-leb (numberWait (station .own .number)) (min acceptanceTime (station .elapsed .0 + 1)) (omega arith))
 
-      by : (test : Bool) → watchEnds station ≡ test → Sound
-          (cond test
-          (watchEnded station)
-          (counted station (station .own) (later longestWatch (station .elapsed)) (station .waited) (ticked (station .panel))))
-      by true t =
-          restarted-sound station (missed (station .members) (station .view))
-          (nextAfter (station .own .number) (station .members) (station .view))
-          (cond (isListed (station .members) (station .view) && strikes (station .members) (station .view))
-          (without (station .view) (station .gathering))
-          (station .gathering))
-          (ticked (station .panel)) ok ours
-          (missed-kept (ok .list) (station .view))
-          (next-station (ok .list) (station .view) (ours .number) (ok .view (rw e)))
-          (struck-placed (isListed (station .members) (station .view)) (strikes (station .members) (station .view))
-          (eqb (station .view) (station .gathering .source)) refl)
-          (ticked-shown (ok .panel))
-      by false t =
-          let more = leb-false (watchTicks (station .own .watch)) (station .elapsed .0 + 1) t in
-          counted-sound station (later longestWatch (station .elapsed)) (station .waited) (ticked (station .panel)) ok (rw e (omega arith)) (ok .waited) (ok .unwaited) (ticked-shown (ok .panel)) (λ s. rw e)
+  joining-asked : station .phase ≡ Joining → station .sent ≡ true → requestFallen (station .phase)
+      (counted station (station .own) (later detectionWait (station .elapsed)) (later (numberWait (station .own .number)) (station .waited)) (station .panel))
+      ≡ true
+  joining-asked e s =
+      let fell = rw e at (ok .sent s) in
+      let come = leb-true (numberWait (station .own .number)) (station .waited .0)
+      (second (eqb (station .rounds) 3) (leb (numberWait (station .own .number)) (station .waited .0)) fell) in
+      rw e (both (first (eqb (station .rounds) 3) (leb (numberWait (station .own .number)) (station .waited .0)) fell)
+      (le-leb (numberWait (station .own .number)) (min (numberWait (station .own .number)) (station .waited .0 + 1)) (omega arith)))
 
-  tick-in : (phase : Phase) → station .phase ≡ phase → Sound (tickedBy phase station)
-  tick-in Off e = ok
-  tick-in Listening e =
+  sound-in : {result : Ticking} → TickCases station result → Sound (result .station)
+  sound-in (off e) = ok
+  sound-in (listens e) =
       counted-sound station (later (listeningTime (station .own .number)) (station .elapsed)) (station .waited) (station .panel) ok
       (rw e (omega arith)) (ok .waited) (ok .unwaited) (ok .panel) (λ s. absurd (false≢true (rw e at (ok .sent s))))
-  tick-in Startup e = startup-tick e
-  tick-in Joining e = joining-tick e
-  tick-in Participating e = participant-tick e
+  sound-in (starts e t) =
+      falls-sound station (later acceptanceTime (station .elapsed)) (station .waited) (station .panel) ok
+      (rw e (leb-false acceptanceTime (min acceptanceTime (station .elapsed .0 + 1)) t)) (ok .waited) (ok .unwaited) (ok .panel) (startup-asked e) (rw e)
+      (station .elapsed) (later acceptanceTime (station .elapsed))
+  sound-in (lapses e t) = listening-sound (station .own) (ok .ours (rw e))
+  sound-in (begins e t) =
+      let ours = ok .ours (rw e) in
+      begun-sound (station .own) (station .members) (smallest (station .own .number) (station .members)) ours (ok .list)
+      (smallest-station (ok .list) (ours .number))
+  sound-in (givesUp e t) = listening-sound (station .own) (ok .ours (rw e))
+  sound-in (learns e t r) =
+      falls-sound station (later detectionWait (station .elapsed)) (station .waited) (station .panel) ok
+      (rw e (leb-false detectionWait (min detectionWait (station .elapsed .0 + 1)) t)) (ok .waited) (ok .unwaited) (ok .panel)
+      (λ s. rw e (rw e at (ok .sent s))) (rw e) (station .waited) (station .waited)
+  sound-in (waits e t r) =
+      falls-sound station (later detectionWait (station .elapsed)) (later (numberWait (station .own .number)) (station .waited)) (station .panel) ok
+      (rw e (leb-false detectionWait (min detectionWait (station .elapsed .0 + 1)) t)) (omega arith) (λ z. absurd (false≢true (sym z ∙ r))) (ok .panel)
+      (joining-asked e) (rw e) (station .waited) (later (numberWait (station .own .number)) (station .waited))
+  sound-in (ends e t) =
+      let ours = ok .ours (rw e) in
+      restarted-sound station (missed (station .members) (station .view))
+      (nextAfter (station .own .number) (station .members) (station .view))
+      (cond (isListed (station .members) (station .view) && strikes (station .members) (station .view))
+      (without (station .view) (station .gathering))
+      (station .gathering))
+      (ticked (station .panel)) ok ours
+      (missed-kept (ok .list) (station .view))
+      (next-station (ok .list) (station .view) (ours .number) (ok .view (rw e)))
+      (struck-placed (isListed (station .members) (station .view)) (strikes (station .members) (station .view))
+      (eqb (station .view) (station .gathering .source)) refl)
+      (ticked-shown (ok .panel))
+  sound-in (runs e t) =
+      let ours = ok .ours (rw e) in
+      let more = leb-false (watchTicks (station .own .watch)) (station .elapsed .0 + 1) t in
+      counted-sound station (later longestWatch (station .elapsed)) (station .waited) (ticked (station .panel)) ok (rw e (omega arith)) (ok .waited)
+      (ok .unwaited) (ticked-shown (ok .panel)) (λ s. rw e)
 
   pub tick-sound : Sound (tickOf station .station)
-  tick-sound = tick-in (station .phase) refl
+  tick-sound = sound-in (tick-cases station)

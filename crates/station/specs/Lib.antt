@@ -9,6 +9,11 @@ pub mod Ticking
 pub mod Hearing
 pub mod Asking
 pub mod Calls
+-- The outcomes of each call, which the theorems go by.
+pub mod SwitchCases
+pub mod HearCases
+pub mod AskCases
+pub mod TickCases
 -- Theorems.
 pub mod Acts
 pub mod Refusing

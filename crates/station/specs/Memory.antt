@@ -1,44 +1,39 @@
 -- "Our own areas are never written by a frame": what hearing a frame does to the common memory. Assumes nothing.
-use mathlib.Core.Path.{_≡_, refl, sym, ap, subst, _∙_}
-use mathlib.Core.Bool.{Bool, true, false, cond, not, _&&_, _||_, false≢true}
+use mathlib.Core.Path.{_≡_, refl, sym, ap, _∙_}
+use mathlib.Core.Bool.{Bool, true, false, cond, not, false≢true}
 use mathlib.Core.List.{List}
 use Prim.Native.Nat.{ℕ}
-use native.Mathlib.Omega.{arith}
 use lib.Dec.{eqb}
 use lib.ListN.{length}
-use Rattle.laws.specs.Tests.{both}
 use Rattle.block.specs.Blocks as blocks
 use Rattle.copying.specs.Pasted.{pasted}
 use Rattle.frame.specs.Codes.{isToken, isCyclic}
 use Rattle.frame.specs.declared.Fields.{Fields}
-use Rattle.frame.specs.declared.Refusal.the-variants as refusals
 use Rattle.members.specs.Members.{entryOf, isListed}
 use Rattle.reading.specs.Reading as reading
 use Rattle.reading.specs.Reading.{readHeaderOf, readBodyOf}
-use Rattle.reading.specs.declared.Read.{Read}
-use Rattle.reading.specs.declared.Read.the-variants.{Frame, Refused}
+use Rattle.reading.specs.declared.Read.the-variants.{Frame}
 use Rattle.station.specs.Answers.{dataOf}
-use Rattle.station.specs.Data.{gathered, dropped, turnWritten, sameAreas, isNext}
-use Rattle.station.specs.Hearing.{Hearing, lentRight, refused, isTaken, afterTaken, knows, isStranger, entersAnswer, enters, accepted, participantHeard, bodyHeard, headerHeard, hearOf}
-use Rattle.station.specs.State.{isOff, isParticipating, nothing}
+use Rattle.station.specs.Data.{turnWritten, sameAreas, isNext}
+use Rattle.station.specs.HearCases.{writes, keeps, drops, EnterCases, off, begins, joins, passes, reads, lists, ignores, HearCases, refuses, turnsOff, gathers, heeds, hear-cases}
+use Rattle.station.specs.Hearing.{Hearing, lentRight, hearOf}
+use Rattle.station.specs.State.{isParticipating}
 use Rattle.station.specs.Token.{viewHeard, takes, outcomeOf}
 use Rattle.station.specs.declared.Data.{Data}
 use Rattle.station.specs.declared.Data.the-variants.{Kept, Written, Dropped}
 use Rattle.station.specs.declared.Heard.{Heard}
 use Rattle.station.specs.declared.Heard.the-variants as heard
-use Rattle.station.specs.declared.Phase.{Phase}
-use Rattle.station.specs.declared.Phase.the-variants.{Off, Listening, Startup, Joining, Participating}
 use Rattle.station.specs.declared.Station.{Station}
 use Rattle.station.specs.declared.Token.{Token}
 use Rattle.station.specs.declared.Token.the-variants as tokens
 
 -- the answer is that of a cyclic frame whose data outcome is "written"
-abbrev pub isWritten : Data → Bool
+abbrev isWritten : Data → Bool
 isWritten Kept = false
 isWritten Written = true
 isWritten Dropped = false
 
-abbrev pub saysWritten : Heard → Bool
+abbrev saysWritten : Heard → Bool
 saysWritten heard.Off = false
 saysWritten heard.Done = false
 saysWritten (heard.Cyclic token) = isWritten (dataOf token)
@@ -60,14 +55,6 @@ pub record Whole (station : Station) (octets memory assembly : List ℕ) (frame 
   pub next : isNext (station .gathering) frame ≡ true
   pub last : eqb (frame .block) (frame .blocks) ≡ true
 
--- the common memory is the same, or one whole turn is written to the source's listed areas
-pub data Effect (station : Station) (octets memory assembly : List ℕ) (result : Hearing) : Type 0 where
-  same : saysWritten (result .answer) ≡ false → result .memory ≡ memory → Effect station octets memory assembly result
-  wrote : saysWritten (result .answer) ≡ true → (frame : Fields) → Whole station octets memory assembly frame
-      → result .assembly ≡ pasted assembly (blocks.startOf (frame .block)) (reading.dataOf octets frame)
-      → result .memory ≡ turnWritten (entryOf (station .members) (frame .source) .areas) (result .assembly) memory
-      → Effect station octets memory assembly result
-
 -- the token's outcome carries that of the data
 data-outcome : (station : Station) (frame : Fields) (outcome : Data) → dataOf (outcomeOf station frame outcome) ≡ outcome
 data-outcome station frame outcome =
@@ -84,174 +71,70 @@ data-outcome station frame outcome =
     by false false false true = refl
     by false false false false = refl
 
--- an off station is no participant
-pub not-off : (phase : Phase) → isParticipating phase ≡ true → isOff phase ≡ false
-not-off Off e = absurd (false≢true e)
-not-off Listening e = refl
-not-off Startup e = refl
-not-off Joining e = refl
-not-off Participating e = refl
+-- such an answer says so
+says : {answer : Heard} (token : Token) → (answer ≡ heard.Cyclic token) × (dataOf token ≡ Written) → saysWritten answer ≡ true
+says token w = ap saysWritten (w .0) ∙ ap isWritten (w .1)
 
--- whoever is no stranger, and is not ourselves, is listed
-pub known-listed : (off ours listed rest : Bool) → (not off && ours) ≡ false → off ≡ false → not ((ours || listed) && rest) ≡ false → listed ≡ true
-known-listed true ours listed rest a b c = absurd (false≢true (sym b))
-known-listed false true listed rest a b c = absurd (false≢true (sym a))
-known-listed false false true rest a b c = refl
-known-listed false false false rest a b c = absurd (false≢true (sym c))
-
-pub rest-fails : (a b : Bool) → a ≡ true → (a && b) ≡ false → b ≡ false
-rest-fails true b p e = e
-rest-fails false b p e = absurd (false≢true p)
-
--- the second part of reading gives the fields it was given
-pub body-frame : (given : ℕ) (f g : Fields) → readBodyOf given f ≡ Frame g → f ≡ g
-body-frame given f g = by (reading.ranged f) (not (isCyclic (f .code)) || reading.blocked given f)
-  where
-    by : (a b : Bool) → reading.need a refusals.Area (reading.need b refusals.Block (Frame f)) ≡ Frame g → f ≡ g
-    by true true e = cc
-    by true false e = let z : _≡_ {A = ℕ} 0 1 = cc in absurd (omega arith)
-    by false b e = let z : _≡_ {A = ℕ} 0 1 = cc in absurd (omega arith)
+-- a frame that a participant does not gather from writes nothing
+entered-unwritten : {station left : Station} {frame : Fields} {answer : Heard} → EnterCases station frame left answer → saysWritten answer ≡ false
+entered-unwritten (off e) = refl
+entered-unwritten (begins e c) = refl
+entered-unwritten (joins e c) = refl
+entered-unwritten (passes e c) = refl
+entered-unwritten (reads e c) = refl
+entered-unwritten (lists e c) = refl
+entered-unwritten (ignores e) = refl
 
 module _ (station : Station) (octets memory assembly : List ℕ) where
-  enters-same : (off cyclic : Bool) → saysWritten (cond off heard.Off (cond cyclic (heard.Cyclic (tokens.None Dropped)) heard.Done)) ≡ false
-  enters-same true cyclic = refl
-  enters-same false true = refl
-  enters-same false false = refl
+  -- the answer is a cyclic one whose data outcome is "written"
+  abbrev Writes : Hearing → Token → Type 0
+  Writes result token = (result .answer ≡ heard.Cyclic token) × (dataOf token ≡ Written)
 
-  accepted-effect : (frame : Fields) → readHeaderOf octets ≡ Frame frame → readBodyOf (length octets) frame ≡ Frame frame
-      → lentRight memory assembly ≡ true → isTaken station frame ≡ false → isStranger station frame ≡ false
-      → Effect station octets memory assembly (accepted station frame octets memory assembly)
-  accepted-effect frame header body lent others known = by (isParticipating (station .phase)) (isCyclic (frame .code)) refl refl
-    where
-      stored : List ℕ
-      stored = pasted assembly (blocks.startOf (frame .block)) (reading.dataOf octets frame)
+  -- and one whole turn, as the call leaves it in the assembly buffer, is written to the source's listed areas
+  abbrev Wrote : Hearing → Type 0
+  Wrote result =
+      (frame : Fields) × Whole station octets memory assembly frame
+      × (result .assembly ≡ pasted assembly (blocks.startOf (frame .block)) (reading.dataOf octets frame))
+      × (result .memory ≡ turnWritten (entryOf (station .members) (frame .source) .areas) (result .assembly) memory)
 
-      gather : isParticipating (station .phase) ≡ true → isCyclic (frame .code) ≡ true → (areas next last : Bool)
-          → sameAreas (frame .areas) (entryOf (station .members) (frame .source) .areas) ≡ areas
-          → isNext (station .gathering) frame ≡ next → eqb (frame .block) (frame .blocks) ≡ last
-          → Effect station octets memory assembly
-          (participantHeard station frame
-          (cond (areas && next)
-          (cond last
-          (record {
-            gathering = nothing;
-            assembly = stored;
-            memory = turnWritten (entryOf (station .members) (frame .source) .areas) stored memory;
-            outcome = Written;
-          })
-          (record {
-            gathering = record { source = frame .source; blocks = frame .block };
-            assembly = stored;
-            memory = memory;
-            outcome = Kept;
-          }))
-          (dropped assembly memory)))
-      gather p c true true true a n l =
-          wrote (ap isWritten (data-outcome station frame Written)) frame
-          (record {
-            header = header;
-            body = body;
-            lent = lent;
-            participating = p;
-            cyclic = c;
-            listed =
-                known-listed (isOff (station .phase)) (eqb (frame .source) (station .own .number)) (isListed (station .members) (frame .source))
-                (not (isToken (frame .code)) || knows station (frame .destination)) others (not-off (station .phase) p)
-                (rest-fails (isParticipating (station .phase) && isCyclic (frame .code)) _ (both p c) known);
-            areas = a;
-            next = n;
-            last = l;
-          })
-          refl refl
-      gather p c true true false a n l = same (ap isWritten (data-outcome station frame Kept)) refl
-      gather p c true false last a n l = same (ap isWritten (data-outcome station frame Dropped)) refl
-      gather p c false next last a n l = same (ap isWritten (data-outcome station frame Dropped)) refl
+  same-in : {result : Hearing} → HearCases station octets memory assembly result → ((token : Token) → Writes result token → ⊥) → result .memory ≡ memory
+  same-in (refuses refusal) none = refl
+  same-in (turnsOff out) none = refl
+  same-in (gathers frame from (writes areas next last)) none =
+      absurd (none (outcomeOf station frame Written) (refl, data-outcome station frame Written))
+  same-in (gathers frame from (keeps areas next last)) none = refl
+  same-in (gathers frame from drops) none = refl
+  same-in (heeds frame facts entered) none = refl
 
-      by : (participating cyclic : Bool) → isParticipating (station .phase) ≡ participating → isCyclic (frame .code) ≡ cyclic
-          → Effect station octets memory assembly
-          (cond (participating && cyclic)
-          (participantHeard station frame (gathered station frame (reading.dataOf octets frame) assembly memory))
-          (record {
-            station = enters (station .phase) (frame .code) station frame;
-            answer = entersAnswer (station .phase) (frame .code);
-            memory = memory;
-            assembly = assembly;
-          }))
-      by true true p c =
-          gather p c (sameAreas (frame .areas) (entryOf (station .members) (frame .source) .areas)) (isNext (station .gathering) frame)
-          (eqb (frame .block) (frame .blocks)) refl refl refl
-      by true false p c = same (enters-same (isOff (station .phase)) (isCyclic (frame .code))) refl
-      by false cyclic p c = same (enters-same (isOff (station .phase)) (isCyclic (frame .code))) refl
-
-  body-effect : (header : Fields) → readHeaderOf octets ≡ Frame header → lentRight memory assembly ≡ true → isTaken station header ≡ false
-      → (read : Read) → readBodyOf (length octets) header ≡ read
-      → Effect station octets memory assembly (bodyHeard station octets memory assembly read)
-  body-effect header h lent others (Refused refusal) b = same refl refl
-  body-effect header h lent others (Frame frame) b =
-      by (isStranger station frame) refl (subst (λ (f : Fields). readHeaderOf octets ≡ Frame f) alike h)
-      (subst (λ (f : Fields). readBodyOf (length octets) f ≡ Frame frame) alike b)
-      (subst (λ (f : Fields). isTaken station f ≡ false) alike others)
-    where
-      alike : header ≡ frame
-      alike = body-frame (length octets) header frame b
-
-      by : (stranger : Bool) → isStranger station frame ≡ stranger → readHeaderOf octets ≡ Frame frame
-          → readBodyOf (length octets) frame ≡ Frame frame → isTaken station frame ≡ false
-          → Effect station octets memory assembly
-          (cond stranger (refused station memory assembly refusals.Stranger) (accepted station frame octets memory assembly))
-      by true s first second third = same refl refl
-      by false s first second third = accepted-effect frame first second lent third s
-
-  header-effect : lentRight memory assembly ≡ true → (read : Read) → readHeaderOf octets ≡ read
-      → Effect station octets memory assembly (headerHeard station octets memory assembly read)
-  header-effect lent (Refused refusal) h = same refl refl
-  header-effect lent (Frame frame) h = by (isTaken station frame) refl
-    where
-      by : (taken : Bool) → isTaken station frame ≡ taken
-          → Effect station octets memory assembly
-          (cond taken
-          (refused (afterTaken station) memory assembly refusals.Taken)
-          (bodyHeard station octets memory assembly (readBodyOf (length octets) frame)))
-      by true t = same refl refl
-      by false t = body-effect frame h lent t (readBodyOf (length octets) frame) refl
-
-  -- what hearing any octets does to the common memory
-  pub hear-effect : Effect station octets memory assembly (hearOf station octets memory assembly)
-  hear-effect = by (lentRight memory assembly) refl
-    where
-      by : (right : Bool) → lentRight memory assembly ≡ right
-          → Effect station octets memory assembly
-          (cond right
-          (headerHeard station octets memory assembly (readHeaderOf octets))
-          (refused station memory assembly refusals.Buffer))
-      by true r = header-effect r (readHeaderOf octets) refl
-      by false r = same refl refl
-
--- an answer that says "written" is a cyclic one with that outcome
-says-of : (answer : Heard) (token : Token) → answer ≡ heard.Cyclic token → dataOf token ≡ Written → saysWritten answer ≡ true
-says-of answer token e w = ap saysWritten e ∙ ap isWritten w
-
-written-of : (outcome : Data) → isWritten outcome ≡ true → outcome ≡ Written
-written-of Kept e = absurd (false≢true e)
-written-of Written e = refl
-written-of Dropped e = absurd (false≢true e)
-
-says-cyclic : (answer : Heard) → saysWritten answer ≡ true → (token : Token) × (answer ≡ heard.Cyclic token) × (dataOf token ≡ Written)
-says-cyclic heard.Off e = absurd (false≢true e)
-says-cyclic heard.Done e = absurd (false≢true e)
-says-cyclic (heard.Cyclic token) e = (token, refl, written-of (dataOf token) e)
-says-cyclic (heard.Refused refusal) e = absurd (false≢true e)
+  wrote-in : {result : Hearing} (token : Token) → HearCases station octets memory assembly result → Writes result token → Wrote result
+  wrote-in token (refuses refusal) w = absurd (false≢true (says token w))
+  wrote-in token (turnsOff out) w = absurd (false≢true (says token w))
+  wrote-in token (gathers frame from (writes areas next last)) w = (
+    frame,
+    record {
+      header = from .accepts .header;
+      body = from .accepts .body;
+      lent = from .accepts .lent;
+      participating = rw (from .participates);
+      cyclic = from .cyclic;
+      listed = from .listed;
+      areas = areas;
+      next = next;
+      last = last;
+    },
+    refl,
+    refl,
+  )
+  wrote-in token (gathers frame from (keeps areas next last)) w = absurd (false≢true (sym (ap isWritten (data-outcome station frame Kept)) ∙ says token w))
+  wrote-in token (gathers frame from drops) w = absurd (false≢true (sym (ap isWritten (data-outcome station frame Dropped)) ∙ says token w))
+  wrote-in token (heeds frame facts entered) w = absurd (false≢true (sym (entered-unwritten entered) ∙ says token w))
 
 -- Where the answer is not a cyclic one whose data outcome is "written", the common memory is the same.
 pub memory-same : (station : Station) (octets memory assembly : List ℕ)
     → ((token : Token) → hearOf station octets memory assembly .answer ≡ heard.Cyclic token → dataOf token ≡ Written → ⊥)
     → hearOf station octets memory assembly .memory ≡ memory
-memory-same station octets memory assembly none = by (hear-effect station octets memory assembly)
-  where
-    by : Effect station octets memory assembly (hearOf station octets memory assembly) → hearOf station octets memory assembly .memory ≡ memory
-    by (same says kept) = kept
-    by (wrote says frame whole stored written) =
-        let w = says-cyclic (hearOf station octets memory assembly .answer) says in absurd (none (w .0) (w .1) (w .2))
+memory-same station octets memory assembly none =
+    same-in station octets memory assembly (hear-cases station octets memory assembly) (λ token w. none token (w .0) (w .1))
 
 -- Where it is, one whole turn, as the call leaves it in the assembly buffer, is written to the source's listed areas.
 pub memory-written : (station : Station) (octets memory assembly : List ℕ) (token : Token)
@@ -260,12 +143,5 @@ pub memory-written : (station : Station) (octets memory assembly : List ℕ) (to
     × (hearOf station octets memory assembly .assembly ≡ pasted assembly (blocks.startOf (frame .block)) (reading.dataOf octets frame))
     × (hearOf station octets memory assembly .memory
     ≡ turnWritten (entryOf (station .members) (frame .source) .areas) (hearOf station octets memory assembly .assembly) memory)
-memory-written station octets memory assembly token e w = by (hear-effect station octets memory assembly)
-  where
-    by : Effect station octets memory assembly (hearOf station octets memory assembly)
-        → (frame : Fields) × Whole station octets memory assembly frame
-        × (hearOf station octets memory assembly .assembly ≡ pasted assembly (blocks.startOf (frame .block)) (reading.dataOf octets frame))
-        × (hearOf station octets memory assembly .memory
-        ≡ turnWritten (entryOf (station .members) (frame .source) .areas) (hearOf station octets memory assembly .assembly) memory)
-    by (same says kept) = absurd (false≢true (sym says ∙ says-of (hearOf station octets memory assembly .answer) token e w))
-    by (wrote says frame whole stored written) = (frame, whole, stored, written)
+memory-written station octets memory assembly token e w =
+    wrote-in station octets memory assembly token (hear-cases station octets memory assembly) (e, w)

@@ -1,14 +1,14 @@
 -- "Our own areas are never written by a frame": in every state that calls can leave, hearing any octets leaves every octet of our own areas
 -- in the common memory as it was. Assumes nothing.
-use mathlib.Core.Path.{_≡_, refl, sym, ap, _∙_}
-use mathlib.Core.Bool.{Bool, true, false, _||_, false≢true}
+use mathlib.Core.Path.{_≡_, refl, sym, _∙_}
+use mathlib.Core.Bool.{true, false, false≢true}
 use mathlib.Core.List.{List}
 use Prim.Native.Nat.{ℕ, _+_, _≤_, max}
 use native.Mathlib.Omega.{arith}
 use lib.Dec.{eqb}
 use lib.ListN.{length, getD}
 use borrow.Author.Tests.{leb-true, eqb-true}
-use Rattle.laws.specs.Tests.{first}
+use Rattle.laws.specs.Tests.{first, neither-first, neither-second}
 use Rattle.area.specs.Areas.{inArea, inRange, spanOf, memoryOctets}
 use Rattle.area.specs.Overlap.{partsOverlap, areasOverlap}
 use Rattle.area.specs.Words.{shared-overlap}
@@ -16,17 +16,12 @@ use Rattle.area.specs.declared.Areas.{Areas}
 use Rattle.area.specs.declared.Area.the-variants.{One, Two}
 use Rattle.area.specs.declared.Part.{Part}
 use Rattle.members.specs.Members.{entryOf}
-use Rattle.station.specs.Apart.{Apart}
 use Rattle.station.specs.ApartHearing.{apart}
-use Rattle.station.specs.Hearing.{lentRight, hearOf}
+use Rattle.station.specs.HearCases.{writes, keeps, drops, HearCases, refuses, turnsOff, gathers, heeds, hear-cases}
+use Rattle.station.specs.Hearing.{lentRight, hearOf, Hearing}
 use Rattle.station.specs.KeepsAsking.{sound}
-use Rattle.station.specs.Memory.{Effect, same, wrote, hear-effect}
 use Rattle.station.specs.Places.{In, written-outside}
 use Rattle.station.specs.Reachable.{Reachable, Sound}
-use Rattle.station.specs.Starting.{requestFallen}
-use Rattle.station.specs.State.{isOff, isParticipating}
-use Rattle.station.specs.declared.Phase.{Phase}
-use Rattle.station.specs.declared.Phase.the-variants.{Off, Listening, Startup, Joining, Participating}
 use Rattle.station.specs.declared.Station.{Station}
 
 -- the place belongs to one of the two areas
@@ -43,14 +38,6 @@ shared-two : (a b : Part) (at : ℕ) → In (spanOf Two a) at → In (spanOf Two
 shared-two a b at p q =
     shared-overlap {a = a} {b = b} {word = max (a .address) (b .address)} (record { from = omega arith; before = omega arith }) (record { from = omega arith; before = omega arith })
 
-or-true : (a b : Bool) → (a || b) ≡ false → a ≡ true → ⊥
-or-true true b e p = false≢true (sym e)
-or-true false b e p = false≢true p
-
-or-true-second : (a b : Bool) → (a || b) ≡ false → b ≡ true → ⊥
-or-true-second true b e p = false≢true (sym e)
-or-true-second false b e p = false≢true (sym e ∙ p)
-
 -- areas in range that do not overlap share no octet
 module _ (a b : Areas) (ranged-a : inRange a ≡ true) (ranged-b : inRange b ≡ true) (clear : areasOverlap a b ≡ false) (at : ℕ) where
   a-one : a .one .address + a .one .size ≤ 512
@@ -60,25 +47,10 @@ module _ (a b : Areas) (ranged-a : inRange a ≡ true) (ranged-b : inRange b ≡
   b-one = leb-true (b .one .address + b .one .size) 512 (first (inArea One (b .one)) (inArea Two (b .two)) ranged-b)
 
   not-both : InAreas a at → InAreas b at → ⊥
-  not-both (inOne p) (inOne q) = or-true (partsOverlap (a .one) (b .one)) (partsOverlap (a .two) (b .two)) clear (shared-one (a .one) (b .one) at p q)
+  not-both (inOne p) (inOne q) = false≢true (sym (neither-first _ _ clear) ∙ shared-one (a .one) (b .one) at p q)
   not-both (inOne p) (inTwo q) = let h = a-one in omega arith
   not-both (inTwo p) (inOne q) = let h = b-one in omega arith
-  not-both (inTwo p) (inTwo q) =
-      or-true-second (partsOverlap (a .one) (b .one)) (partsOverlap (a .two) (b .two)) clear (shared-two (a .two) (b .two) at p q)
-
-fallen : (phase : Phase) (station : Station) → isParticipating phase ≡ true → requestFallen phase station ≡ true
-fallen Off station e = e
-fallen Listening station e = e
-fallen Startup station e = absurd (false≢true e)
-fallen Joining station e = absurd (false≢true e)
-fallen Participating station e = refl
-
-on : (phase : Phase) → isParticipating phase ≡ true → isOff phase ≡ false
-on Off e = absurd (false≢true e)
-on Listening e = refl
-on Startup e = refl
-on Joining e = refl
-on Participating e = refl
+  not-both (inTwo p) (inTwo q) = false≢true (sym (neither-second (partsOverlap (a .one) (b .one)) _ clear) ∙ shared-two (a .two) (b .two) at p q)
 
 -- the buffers have their length where a frame is read
 pub memory-long : (memory assembly : List ℕ) → lentRight memory assembly ≡ true → length memory ≡ memoryOctets
@@ -87,18 +59,19 @@ memory-long memory assembly e = eqb-true (length memory) 17408 (first (eqb (leng
 -- No heard frame changes an octet of our own areas.
 pub ours-kept : (station : Station) → Reachable station → (octets memory assembly : List ℕ) (at : ℕ) → InAreas (station .own .areas) at
     → getD (hearOf station octets memory assembly .memory) at 0 ≡ getD memory at 0
-ours-kept station reached octets memory assembly at ours = by (hear-effect station octets memory assembly)
+ours-kept station reached octets memory assembly at ours = by (hear-cases station octets memory assembly)
   where
-    by : Effect station octets memory assembly (hearOf station octets memory assembly)
-        → getD (hearOf station octets memory assembly .memory) at 0 ≡ getD memory at 0
-    by (same says kept) = ap (λ (m : List ℕ). getD m at 0) kept
-    by (wrote says frame whole stored written) =
+    by : {result : Hearing} → HearCases station octets memory assembly result → getD (result .memory) at 0 ≡ getD memory at 0
+    by (refuses refusal) = refl
+    by (turnsOff out) = refl
+    by (gathers frame {after} from (writes areas next last)) =
         let ok : Sound station = sound station reached in
-        let aside : Apart station = apart station reached in
-        let ranged-ours = ok .ours (on (station .phase) (whole .participating)) .areas in
-        let ranged = ok .list .each (frame .source) (whole .listed) .areas in
-        let clear = aside .ours (fallen (station .phase) station (whole .participating)) (frame .source) (whole .listed) in
+        let ranged-ours = ok .ours (rw (from .participates)) .areas in
+        let ranged = ok .list .each (frame .source) (from .listed) .areas in
+        let clear = apart station reached .ours (rw (from .participates)) (frame .source) (from .listed) in
         let never = not-both (station .own .areas) (entryOf (station .members) (frame .source) .areas) ranged-ours ranged clear at ours in
-        ap (λ (m : List ℕ). getD m at 0) written
-        ∙ written-outside (entryOf (station .members) (frame .source) .areas) (hearOf station octets memory assembly .assembly) memory ranged
-        (memory-long memory assembly (whole .lent)) at (λ p. never (inOne p)) (λ p. never (inTwo p))
+        written-outside (entryOf (station .members) (frame .source) .areas) (after .assembly) memory ranged
+        (memory-long memory assembly (from .accepts .lent)) at (λ p. never (inOne p)) (λ p. never (inTwo p))
+    by (gathers frame from (keeps areas next last)) = refl
+    by (gathers frame from drops) = refl
+    by (heeds frame facts entered) = refl

@@ -1,7 +1,7 @@
 -- What asking for a frame does to the panel. Assumes nothing.
 use mathlib.Core.Path.{_≡_, refl, sym, _∙_}
 use mathlib.Core.Bool.{Bool, true, false, cond, not, _&&_, _||_, false≢true}
-use mathlib.Core.List.{List, []}
+use mathlib.Core.List.{List}
 use Prim.Native.Nat.{ℕ, _+_, _<_}
 use native.Mathlib.Omega.{arith}
 use borrow.Author.Tests.{leb-true, leb-false, eq-eqb, eqb-true}
@@ -9,16 +9,14 @@ use lib.Dec.{eqb, leb}
 use Rattle.block.specs.Blocks.{blocksOf}
 use Rattle.frame.specs.Codes.{isToken}
 use Rattle.frame.specs.declared.Code.the-variants.{Token, Cyclic}
-use Rattle.laws.specs.Tests.{first}
-use Rattle.frame.specs.declared.Refusal.the-variants as refusals
 use Rattle.panel.specs.Panel.{taken}
-use Rattle.station.specs.Asking as asking
-use Rattle.station.specs.History.{passedBy}
+use Rattle.station.specs.AskCases.{triggers, requests, begins, passes, AskCases, refuses, sends}
+use Rattle.station.specs.History.{passedBy, participates, writesToUs}
 use Rattle.station.specs.State.{holds}
-use Rattle.station.specs.declared.Phase.{Phase}
-use Rattle.station.specs.declared.Phase.the-variants.{Off, Listening, Startup, Joining, Participating}
+use Rattle.station.specs.declared.Phase.the-variants.{Participating}
 use Rattle.station.specs.declared.Station.{Station}
-use Rattle.station.specs.PanelMoves.{in-phase, Moves, enter, leave, stays, begin, us}
+use Rattle.station.specs.PanelMoves.{Moves, enter, leave, stays, begin}
+use Rattle.station.specs.Asking.{Asking, isLast, nextStation, blockSent, dueFields}
 
 -- the frame has code 65000 where the block is the last
 last-code : (block blocks : ℕ) → block < blocks → isToken (cond (eqb (block + 1) blocks) Token Cyclic) ≡ leb blocks (block + 1)
@@ -37,13 +35,14 @@ last-code block blocks room = by (leb blocks (block + 1)) refl (eqb (block + 1) 
     by false e false d = refl
 
 -- a holder sends a block
-sends : (station : Station) → holds station ≡ true →
-    Moves (us station) false (passedBy (us station) (asking.written (us station) [] [] .answer)) (asking.blockSent (us station))
-sends station held = enter refl (λ room. record {
+block-moves : (station : Station) → participates station ≡ true → holds station ≡ true →
+    Moves station false (writesToUs station (dueFields Participating station)) (blockSent station)
+block-moves station inside held = enter refl (λ room. record {
   panel =
-      by (asking.isLast (us station)) _ (eqb (asking.nextStation (us station)) (station .own .number)) (holds (asking.blockSent (us station)))
-      (holds station) (last-code (station .block) (blocksOf (station .own .areas)) (room refl)) held;
-  room = left (asking.isLast (us station)) refl;
+      rw inside
+      (by (isLast station) _ (eqb (nextStation station) (station .own .number)) (holds (blockSent station)) (holds station)
+      (last-code (station .block) (blocksOf (station .own .areas)) (room inside)) held);
+  room = left (isLast station) refl;
 })
   where
     by : (last code to after before : Bool) → code ≡ last → before ≡ true →
@@ -59,36 +58,14 @@ sends station held = enter refl (λ room. record {
     by false false to true true c d = refl
     by false false to false true c d = refl
 
-    left : (last : Bool) → asking.isLast (us station) ≡ last → cond last 0 (station .block + 1) < blocksOf (station .own .areas)
+    left : (last : Bool) → isLast station ≡ last → cond last 0 (station .block + 1) < blocksOf (station .own .areas)
     left true e = omega arith
     left false e = leb-false (blocksOf (station .own .areas)) (station .block + 1) e
 
--- a frame that is due, in each phase
-writes : (phase : Phase) (station : Station) → asking.dueIn phase (in-phase phase station) ≡ true →
-    Moves (in-phase phase station) false (passedBy (in-phase phase station) (asking.written (in-phase phase station) [] [] .answer))
-    (asking.sentIn phase (in-phase phase station))
-writes Off station due = leave refl (λ clear. clear refl)
-writes Listening station due = leave refl (λ clear. refl)
-writes Startup station due = leave refl (λ clear. clear refl)
-writes Joining station due = begin Joining station false (station .own) (station .members) (station .view) refl
-writes Participating station due = sends station (first (holds (us station)) (asking.isPlaced (us station)) due)
-
-pub ask-moves : (phase : Phase) (station : Station) (memory turn output : List ℕ) →
-    Moves (in-phase phase station) false (passedBy (in-phase phase station) (asking.askOf (in-phase phase station) memory turn output .answer))
-    (asking.askOf (in-phase phase station) memory turn output .station)
-ask-moves phase station memory turn output =
-    by (asking.lentRight memory turn output) (asking.dueIn phase (in-phase phase station)) refl
-  where
-    result : Bool → Bool → asking.Asking
-    result lent due =
-        cond lent
-        (cond due
-        (asking.written (in-phase phase station) (asking.turnAfter phase (in-phase phase station) memory turn) output)
-        (asking.refused (in-phase phase station) turn output refusals.NotDue))
-        (asking.refused (in-phase phase station) turn output refusals.Buffer)
-
-    by : (lent due : Bool) → asking.dueIn phase (in-phase phase station) ≡ due →
-        Moves (in-phase phase station) false (passedBy (in-phase phase station) (result lent due .answer)) (result lent due .station)
-    by true true e = writes phase station e
-    by true false e = stays (in-phase phase station)
-    by false due e = stays (in-phase phase station)
+pub ask-moves : {station : Station} {memory turn output : List ℕ} {result : Asking} → AskCases station memory turn output result →
+    Moves station false (passedBy station (result .answer)) (result .station)
+ask-moves {station} (refuses refusal) = stays station
+ask-moves (sends lent is (triggers e due)) = leave refl (λ clear. refl)
+ask-moves (sends lent is (requests e fallen)) = leave (rw e) (λ clear. clear (rw e))
+ask-moves {station} (sends lent is (begins e fallen)) = rw is (begin station false (station .own) (station .members) (station .view) (rw e))
+ask-moves {station} (sends lent is (passes e held placed)) = rw is (block-moves station (rw e) held)

@@ -3,36 +3,33 @@ use mathlib.Core.Path.{_≡_, refl, sym, _∙_}
 use mathlib.Core.Bool.{Bool, true, false, cond, not, _&&_, false≢true}
 use mathlib.Core.List.{List, [], _∷_}
 use Prim.Native.Nat.{ℕ, suc}
-use lib.Dec.{ltb}
-use Rattle.area.specs.Areas.{inRange}
-use Rattle.frame.specs.declared.Refusal.the-variants as refusals
 use Rattle.panel.specs.Panel.{blank, ticked, taken, figureOf}
 use Rattle.panel.specs.declared.Figure.the-variants.{Nothing}
 use Rattle.panel.specs.declared.Panel.{Panel}
-use Rattle.reading.specs.Reading.{isStation}
+use Rattle.station.specs.AskCases.{ask-cases}
 use Rattle.station.specs.Calls.{Call, start, stop, tick, hear, ask, after}
+use Rattle.station.specs.HearCases.{hear-cases}
 use Rattle.station.specs.History.{Step, stepOf, stepsOn, history, stateAfter, participates, isTick, passes, isTaking, clock, noted, takings, lastGap, saidSince, figureSaid}
 use Rattle.station.specs.PanelAsked.{ask-moves}
 use Rattle.station.specs.PanelCounts.{Counts, counts-tick, counts-taken, counts-shown}
 use Rattle.station.specs.PanelHeard.{hear-moves}
-use Rattle.station.specs.PanelMoves.{Room, Moved, Moves, leave}
-use Rattle.station.specs.PanelTicked.{tick-moves, need-moves}
+use Rattle.station.specs.PanelMoves.{Room, Moved, Moves, leave, stays}
+use Rattle.station.specs.PanelTicked.{tick-moves}
 use Rattle.station.specs.Showing.{figureShown}
 use Rattle.station.specs.State.{isOff, isParticipating, never}
+use Rattle.station.specs.SwitchCases.{switched-to, start-cases, stop-cases}
+use Rattle.station.specs.TickCases.{tick-cases}
 use Rattle.station.specs.declared.Phase.{Phase}
 use Rattle.station.specs.declared.Phase.the-variants.{Off, Listening, Startup, Joining, Participating}
 use Rattle.station.specs.declared.Station.{Station}
 
 -- what every call does to the panel
 moves : (station : Station) (call : Call) → Moves station (isTick call) (passes station call) (after station call)
-moves station (start settings) =
-    need-moves station (isOff (station .phase)) refusals.NotDue _
-    (need-moves station (isStation (settings .number) && ltb 0 (settings .watch .0)) refusals.Address _
-    (need-moves station (inRange (settings .areas)) refusals.Area _ (leave refl (λ clear. refl))))
-moves station stop = need-moves station (not (isOff (station .phase))) refusals.NotDue _ (leave refl (λ clear. refl))
-moves station tick = tick-moves (station .phase) station
-moves station (hear octets memory assembly) = hear-moves (station .phase) station octets memory assembly
-moves station (ask memory turn output) = ask-moves (station .phase) station memory turn output
+moves station (start own) = switched-to (Moves station false false) (start-cases station own) (stays station) (λ starts. leave refl (λ clear. refl))
+moves station stop = switched-to (Moves station false false) (stop-cases station) (stays station) (λ on. leave refl (λ clear. refl))
+moves station tick = tick-moves (tick-cases station)
+moves station (hear octets memory assembly) = hear-moves (hear-cases station octets memory assembly)
+moves station (ask memory turn output) = ask-moves (ask-cases station memory turn output)
 
 -- what holds of a participant after these steps: its counters are those of the history, and a block of its turn is left to send
 record Agrees (steps : List Step) (station : Station) : Type 0 where

@@ -8,32 +8,14 @@ use Rattle.block.specs.Blocks.{blocksOf}
 use Rattle.members.specs.declared.Members.{Members}
 use Rattle.panel.specs.Panel.{blank, ticked, taken}
 use Rattle.panel.specs.declared.Panel.{Panel}
+use Rattle.units.specs.declared.Ticks.{Ticks}
 use Rattle.station.specs.History.{participates, takingBy}
-use Rattle.station.specs.State.{isParticipating, holds, begun}
+use Rattle.station.specs.State.{holds, begun}
 use Rattle.station.specs.Ticking.{counted}
 use Rattle.station.specs.Token.{restarted, takes}
 use Rattle.station.specs.declared.Gathering.{Gathering}
-use Rattle.station.specs.declared.Phase.{Phase}
-use Rattle.station.specs.declared.Phase.the-variants.{Participating}
 use Rattle.station.specs.declared.Settings.{Settings}
 use Rattle.station.specs.declared.Station.{Station}
-use Rattle.units.specs.declared.Ticks.{Ticks}
-
--- a station with its phase written out
-abbrev pub in-phase : Phase → Station → Station
-in-phase phase station = record {
-  phase = phase;
-  own = station .own;
-  members = station .members;
-  elapsed = station .elapsed;
-  waited = station .waited;
-  rounds = station .rounds;
-  sent = station .sent;
-  view = station .view;
-  block = station .block;
-  gathering = station .gathering;
-  panel = station .panel;
-}
 
 -- a participant has a block of its turn left to send
 abbrev pub Room : Station → Type 0
@@ -76,10 +58,10 @@ stays station = record {
     by false h panel e = absurd (false≢true e)
 
 -- we begin to participate
-pub begin : (phase : Phase) (before : Station) (ticks : Bool) (own : Settings) (members : Members) (view : ℕ) →
-    isParticipating phase ≡ false → Moves (in-phase phase before) ticks false (begun own members view)
-begin phase before ticks own members view out =
-    enter refl (λ room. record { panel = by (isParticipating phase) out (eqb view (own .number)); room = omega arith })
+pub begin : (before : Station) (ticks : Bool) (own : Settings) (members : Members) (view : ℕ) →
+    participates before ≡ false → Moves before ticks false (begun own members view)
+begin before ticks own members view out =
+    enter refl (λ room. record { panel = by (participates before) out (eqb view (own .number)); room = omega arith })
   where
     by : (p : Bool) → p ≡ false → (h : Bool) → cond h (taken blank) blank ≡
         cond ((((p && true) && (h && not (holds before))) || false) || ((not p && true) && h))
@@ -89,29 +71,26 @@ begin phase before ticks own members view out =
     by false e true = refl
     by false e false = refl
 
--- a participant's view changes, or not, and its watch restarts
-module _ (station : Station) where
-  abbrev pub us : Station
-  us = in-phase Participating station
-
-  came : (test : Bool) (panel : Panel) → cond test (taken panel) panel ≡ cond ((test || false) || false) (taken panel) panel
-  came true panel = refl
-  came false panel = refl
-
-  room-kept : (test : Bool) → Room station → cond test (station .block) 0 < blocksOf (station .own .areas)
-  room-kept true room = room
-  room-kept false room = omega arith
-
+module _ (station : Station) (inside : participates station ≡ true) where
+  -- a participant's view changes, or not, and its watch restarts
   pub restarts : (members : Members) (view : ℕ) (gathering : Gathering) (ticks : Bool) →
-      Moves us ticks false (restarted us members view gathering (cond ticks (ticked (station .panel)) (station .panel)))
+      Moves station ticks false (restarted station members view gathering (cond ticks (ticked (station .panel)) (station .panel)))
   restarts members view gathering ticks = enter refl (λ room. record {
-    panel = came (takes (station .own .number) (station .view) view) (cond ticks (ticked (station .panel)) (station .panel));
-    room = room-kept (eqb view (station .own .number)) (room refl);
+    panel = rw inside (came (takes (station .own .number) (station .view) view) (cond ticks (ticked (station .panel)) (station .panel)));
+    room = kept (eqb view (station .own .number)) (room inside);
   })
+    where
+      came : (test : Bool) (panel : Panel) → cond test (taken panel) panel ≡ cond ((test || false) || false) (taken panel) panel
+      came true panel = refl
+      came false panel = refl
+
+      kept : (test : Bool) → Room station → cond test (station .block) 0 < blocksOf (station .own .areas)
+      kept true room = room
+      kept false room = omega arith
 
   -- a participant's tick
-  pub only-counts : (elapsed : Ticks) → Moves us true false (counted us (station .own) elapsed (station .waited) (ticked (station .panel)))
-  only-counts elapsed = enter refl (λ room. record { panel = by (holds station) (ticked (station .panel)); room = room refl })
+  pub only-counts : (elapsed : Ticks) → Moves station true false (counted station (station .own) elapsed (station .waited) (ticked (station .panel)))
+  only-counts elapsed = enter inside (λ room. record { panel = rw inside (by (holds station) (ticked (station .panel))); room = room inside })
     where
       by : (h : Bool) (panel : Panel) → panel ≡ cond (((h && not h) || false) || false) (taken panel) panel
       by true panel = refl

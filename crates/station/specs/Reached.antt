@@ -1,11 +1,12 @@
 -- What holds after any list of calls with any arguments since off. Assumes nothing.
-use mathlib.Core.Path.{_≡_, refl, sym, _∙_}
-use mathlib.Core.Bool.{Bool, true, false, _||_, false≢true}
+use mathlib.Core.Path.{_≡_, sym, _∙_}
+use mathlib.Core.Bool.{true, false, false≢true}
 use mathlib.Core.List.{List, [], _∷_}
 use Prim.Native.Nat.{ℕ}
 use Rattle.area.specs.Overlap.{partsOverlap, areasOverlap}
 use Rattle.area.specs.Words.{Holds, shared-overlap}
 use Rattle.area.specs.declared.Areas.{Areas}
+use Rattle.laws.specs.Tests.{neither-first, neither-second}
 use Rattle.members.specs.Members.{entryOf, isListed, ringOf}
 use Rattle.settling.specs.Ring.{Stations}
 use Rattle.settling.specs.Steps.{afterAll}
@@ -41,17 +42,10 @@ pub record Unshared (a b : Areas) : Type 0 where
   pub one : (word : ℕ) → Holds (a .one) word → Holds (b .one) word → ⊥
   pub two : (word : ℕ) → Holds (a .two) word → Holds (b .two) word → ⊥
 
-or-first : (a b : Bool) → a ≡ true → (a || b) ≡ true
-or-first a b e = rw e
-
-or-second : (a b : Bool) → b ≡ true → (a || b) ≡ true
-or-second true b e = refl
-or-second false b e = e
-
 pub unshared : (a b : Areas) → areasOverlap a b ≡ false → Unshared a b
 unshared a b e = record {
-  one = λ word p q. false≢true (sym e ∙ or-first (partsOverlap (a .one) (b .one)) (partsOverlap (a .two) (b .two)) (shared-overlap p q));
-  two = λ word p q. false≢true (sym e ∙ or-second (partsOverlap (a .one) (b .one)) (partsOverlap (a .two) (b .two)) (shared-overlap p q));
+  one = λ word p q. false≢true (sym (neither-first _ (partsOverlap (a .two) (b .two)) e) ∙ shared-overlap p q);
+  two = λ word p q. false≢true (sym (neither-second (partsOverlap (a .one) (b .one)) _ e) ∙ shared-overlap p q);
 }
 
 module _ (station : Station) (reached : Reachable station) where

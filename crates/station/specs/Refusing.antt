@@ -1,28 +1,26 @@
 -- Demand 1: "a numbered refusal changes no buffer, and no station state except in the one case that the table names". Assumes nothing.
-use mathlib.Core.Path.{_≡_, refl, ap₂, sym, subst, _∙_}
-use mathlib.Core.Bool.{Bool, true, false, cond, not, _&&_}
+use mathlib.Core.Path.{_≡_, refl, ap₂, sym, _∙_}
+use mathlib.Core.Bool.{Bool, true, false, cond, _&&_}
 use mathlib.Core.List.{List, [], _∷_}
 use Prim.Native.Nat.{ℕ}
 use native.Mathlib.Omega.{arith}
-use lib.Dec.{ltb}
-use lib.ListN.{length}
-use Rattle.area.specs.Areas.{inRange}
 use Rattle.frame.specs.Codes.{isCyclic}
 use Rattle.frame.specs.declared.Fields.{Fields}
 use Rattle.frame.specs.declared.Refusal.{Refusal}
 use Rattle.frame.specs.declared.Refusal.the-variants as refusals
-use Rattle.reading.specs.Reading.{isStation, readHeaderOf, readBodyOf}
-use Rattle.reading.specs.declared.Read.{Read}
-use Rattle.reading.specs.declared.Read.the-variants.{Frame, Refused}
-use Rattle.station.specs.Asking as asking
+use Rattle.station.specs.AskCases as on-asking
 use Rattle.station.specs.Calls.{Call, start, stop, tick, hear, ask, lent, lentAfter, after, refusedBy, taken, verdict, switchedVerdict, heardVerdict, askedVerdict}
-use Rattle.station.specs.Hearing.{Hearing, lentRight, refused, isTaken, afterTaken, isStranger, accepted, bodyHeard, headerHeard, hearOf}
-use Rattle.station.specs.Starting.{Switching, need}
+use Rattle.station.specs.HearCases.{EnterCases, off, begins, joins, passes, reads, lists, ignores, HearCases, refuses, turnsOff, gathers, heeds, hear-cases}
+use Rattle.station.specs.Hearing.{Hearing, accepted}
+use Rattle.station.specs.Starting.{Switching}
 use Rattle.station.specs.State.{isOff, isParticipating, stopped}
+use Rattle.station.specs.SwitchCases as on-switching
 use Rattle.station.specs.declared.Data.the-variants.{Dropped}
+use Rattle.station.specs.declared.Heard.{Heard}
 use Rattle.station.specs.declared.Heard.the-variants as heard
 use Rattle.station.specs.declared.Station.{Station}
 use Rattle.station.specs.declared.Token.the-variants as tokens
+use Rattle.station.specs.Asking.{Asking}
 
 -- nothing is altered, or number 6 came before we participate and left just what stop leaves
 pub data Spared (before after : Station) (refusal : Refusal) : Type 0 where
@@ -38,12 +36,11 @@ pub record Left (station : Station) (call : Call) (refusal : Refusal) : Type 0 w
 not-taken : {refusal : Refusal} → taken ≡ refusedBy refusal → ⊥
 not-taken e = let z : _≡_ {A = ℕ} 0 1 = cc in omega arith
 
--- a test that refuses alters nothing
-need-left : (test : Bool) (other refusal : Refusal) (station : Station) (rest : Switching)
-    → (switchedVerdict (rest .answer) ≡ refusedBy refusal → rest .station ≡ station)
-    → switchedVerdict (need test other station rest .answer) ≡ refusedBy refusal → need test other station rest .station ≡ station
-need-left true other refusal station rest more e = more e
-need-left false other refusal station rest more e = refl
+-- a start or a stop: what is left where the answer is a refusal
+switch-keeps : {station left : Station} {Reason : Type 0} {result : Switching} (refusal : Refusal) → on-switching.SwitchCases station left Reason result →
+    switchedVerdict (result .answer) ≡ refusedBy refusal → result .station ≡ station
+switch-keeps refusal (on-switching.refuses other) e = refl
+switch-keeps refusal (on-switching.does reason) e = absurd (not-taken e)
 
 -- a frame that is accepted is not refused
 pub accepted-taken : (station : Station) (frame : Fields) (octets memory assembly : List ℕ)
@@ -62,95 +59,39 @@ accepted-taken station frame octets memory assembly =
     entered false false = refl
 
 -- hearing: what is left where the answer is a refusal
-abbrev Keeps : Station → List ℕ → List ℕ → Hearing → Type 0
-Keeps station memory assembly result =
-    (refusal : Refusal) → heardVerdict (result .answer) ≡ refusedBy refusal →
+entered-accepted : {station left : Station} {frame : Fields} {answer : Heard} → EnterCases station frame left answer → heardVerdict answer ≡ taken
+entered-accepted (off e) = refl
+entered-accepted (begins e c) = refl
+entered-accepted (joins e c) = refl
+entered-accepted (passes e c) = refl
+entered-accepted (reads e c) = refl
+entered-accepted (lists e c) = refl
+entered-accepted (ignores e) = refl
+
+hear-keeps : {station : Station} {octets memory assembly : List ℕ} {result : Hearing} (refusal : Refusal) → HearCases station octets memory assembly result →
+    heardVerdict (result .answer) ≡ refusedBy refusal →
     Spared station (result .station) refusal × (result .memory ≡ memory) × (result .assembly ≡ assembly)
-
-module _ (station : Station) (memory assembly : List ℕ) where
-  refused-keeps : (other : Refusal) → Keeps station memory assembly (refused station memory assembly other)
-  refused-keeps other refusal e = (same refl, refl, refl)
-
-  taken-spared : (test : Bool) → isParticipating (station .phase) ≡ test → Spared station (cond test station (stopped station)) refusals.Taken
-  taken-spared true e = same refl
-  taken-spared false e = turnedOff refl e refl
-
-  taken-keeps : Keeps station memory assembly (refused (afterTaken station) memory assembly refusals.Taken)
-  taken-keeps refusal e =
-      let six : refusals.Taken ≡ refusal = cc in
-      (subst (Spared station (afterTaken station)) six (taken-spared (isParticipating (station .phase)) refl), refl, refl)
-
-  accepted-keeps : (frame : Fields) (octets : List ℕ) → Keeps station memory assembly (accepted station frame octets memory assembly)
-  accepted-keeps frame octets refusal e = absurd (not-taken (sym (accepted-taken station frame octets memory assembly) ∙ e))
-
-  body-keeps : (octets : List ℕ) (read : Read) → Keeps station memory assembly (bodyHeard station octets memory assembly read)
-  body-keeps octets (Refused other) = refused-keeps other
-  body-keeps octets (Frame frame) = by (isStranger station frame)
-    where
-      by : (test : Bool) → Keeps station memory assembly
-          (cond test (refused station memory assembly refusals.Stranger) (accepted station frame octets memory assembly))
-      by true = refused-keeps refusals.Stranger
-      by false = accepted-keeps frame octets
-
-  header-keeps : (octets : List ℕ) (read : Read) → Keeps station memory assembly (headerHeard station octets memory assembly read)
-  header-keeps octets (Refused other) = refused-keeps other
-  header-keeps octets (Frame frame) = by (isTaken station frame)
-    where
-      by : (test : Bool) → Keeps station memory assembly
-          (cond test (refused (afterTaken station) memory assembly refusals.Taken)
-          (bodyHeard station octets memory assembly (readBodyOf (length octets) frame)))
-      by true = taken-keeps
-      by false = body-keeps octets (readBodyOf (length octets) frame)
-
-  hear-keeps : (octets : List ℕ) → Keeps station memory assembly (hearOf station octets memory assembly)
-  hear-keeps octets = by (lentRight memory assembly)
-    where
-      by : (test : Bool) → Keeps station memory assembly
-          (cond test (headerHeard station octets memory assembly (readHeaderOf octets)) (refused station memory assembly refusals.Buffer))
-      by true = header-keeps octets (readHeaderOf octets)
-      by false = refused-keeps refusals.Buffer
+hear-keeps refusal (refuses other) e = (same refl, refl, refl)
+hear-keeps refusal (turnsOff out) e = (turnedOff (cc) out refl, refl, refl)
+hear-keeps refusal (gathers frame facts parts) e = absurd (not-taken e)
+hear-keeps refusal (heeds frame facts entered) e = absurd (not-taken (sym (entered-accepted entered) ∙ e))
 
 -- asking: what is left where the answer is a refusal
-ask-keeps : (station : Station) (memory turn output : List ℕ) (refusal : Refusal) →
-    askedVerdict (asking.askOf station memory turn output .answer) ≡ refusedBy refusal →
-    (asking.askOf station memory turn output .station ≡ station)
-    × (asking.askOf station memory turn output .turn ≡ turn)
-    × (asking.askOf station memory turn output .output ≡ output)
-ask-keeps station memory turn output refusal = by (asking.lentRight memory turn output) (asking.dueIn (station .phase) station)
-  where
-    result : Bool → Bool → asking.Asking
-    result lent due =
-        cond lent
-        (cond due
-        (asking.written station (asking.turnAfter (station .phase) station memory turn) output)
-        (asking.refused station turn output refusals.NotDue))
-        (asking.refused station turn output refusals.Buffer)
-
-    by : (lent due : Bool) → askedVerdict (result lent due .answer) ≡ refusedBy refusal →
-        (result lent due .station ≡ station) × (result lent due .turn ≡ turn) × (result lent due .output ≡ output)
-    by true true e = absurd (not-taken e)
-    by true false e = (refl, refl, refl)
-    by false due e = (refl, refl, refl)
+ask-keeps : {station : Station} {memory turn output : List ℕ} {result : Asking} (refusal : Refusal) → on-asking.AskCases station memory turn output result →
+    askedVerdict (result .answer) ≡ refusedBy refusal → (result .station ≡ station) × (result .turn ≡ turn) × (result .output ≡ output)
+ask-keeps refusal (on-asking.refuses other) e = (refl, refl, refl)
+ask-keeps refusal (on-asking.sends lent is sent) e = absurd (not-taken e)
 
 -- Every call that is refused leaves the state and every lent buffer as they were, but that number 6 before we participate leaves just what
 -- stop leaves.
 pub refused-left : (station : Station) (call : Call) (refusal : Refusal) → verdict station call ≡ refusedBy refusal → Left station call refusal
-refused-left station (start settings) refusal e = record {
-  state = same (
-      need-left (isOff (station .phase)) refusals.NotDue refusal station _
-      (need-left (isStation (settings .number) && ltb 0 (settings .watch .0)) refusals.Address refusal station _
-      (need-left (inRange (settings .areas)) refusals.Area refusal station _ (λ d. absurd (not-taken d)))) e
-      );
-  buffers = refl;
-}
-refused-left station stop refusal e = record {
-  state = same (need-left (not (isOff (station .phase))) refusals.NotDue refusal station _ (λ d. absurd (not-taken d)) e);
-  buffers = refl;
-}
+refused-left station (start settings) refusal e =
+    record { state = same (switch-keeps refusal (on-switching.start-cases station settings) e); buffers = refl }
+refused-left station stop refusal e = record { state = same (switch-keeps refusal (on-switching.stop-cases station) e); buffers = refl }
 refused-left station tick refusal e = absurd (not-taken e)
 refused-left station (hear octets memory assembly) refusal e =
-    let kept = hear-keeps station memory assembly octets refusal e in
+    let kept = hear-keeps refusal (hear-cases station octets memory assembly) e in
     record { state = kept .0; buffers = ap₂ (λ (m a : List ℕ). octets ∷ m ∷ a ∷ []) (kept .1) (kept .2) }
 refused-left station (ask memory turn output) refusal e =
-    let kept = ask-keeps station memory turn output refusal e in
+    let kept = ask-keeps refusal (on-asking.ask-cases station memory turn output) e in
     record { state = same (kept .0); buffers = ap₂ (λ (t o : List ℕ). memory ∷ t ∷ o ∷ []) (kept .1) (kept .2) }

@@ -1,15 +1,13 @@
 -- Half a turn is never written: the turn that is written is what the assembly buffer held before the last block, and that block's octets
 -- right behind it, just as many as the source's listed areas have. Assumes nothing.
-use mathlib.Core.Path.{_≡_, refl, sym, ap, _∙_}
+use mathlib.Core.Path.{_≡_, sym, ap, _∙_}
 use mathlib.Core.List.{List, _++_, append-assoc}
-use mathlib.Core.Bool.{Bool, true, false, not, _&&_, _||_}
+use mathlib.Core.Bool.{true}
 use Prim.Native.Nat.{ℕ, _+_, _-_, _≤_}
 use native.Mathlib.Omega.{arith}
-use lib.Dec.{eqb}
 use lib.ListN.{length, take, drop, length-append, length-take, length-drop}
 use lib.Seq.{take-at}
 use borrow.Author.Tests.{eqb-true}
-use Rattle.laws.specs.Tests.{first, second, implied}
 use Rattle.area.specs.Areas.{memoryOctets}
 use Rattle.area.specs.declared.Areas.{Areas}
 use Rattle.block.specs.Blocks.{octetsOf, blocksOf, startOf}
@@ -17,16 +15,15 @@ use Rattle.block.specs.Cut as cut
 use Rattle.copying.specs.Pasted.{pasted}
 use Rattle.frame.specs.Codes.{isCyclic}
 use Rattle.frame.specs.declared.Fields.{Fields}
-use Rattle.frame.specs.declared.Refusal.the-variants as refusals
 use Rattle.members.specs.Members.{entryOf}
 use Rattle.reading.specs.Reading as reading
-use Rattle.reading.specs.Reading.{readBodyOf, blocked}
-use Rattle.reading.specs.declared.Read.the-variants.{Frame}
-use Rattle.round_trip.specs.Shown.{Blocked, is-blocked}
+use Rattle.round_trip.specs.Shown.{Blocked, block-is}
 use Rattle.station.specs.Answers.{dataOf}
 use Rattle.station.specs.Data.{sameAreas}
+use Rattle.station.specs.HearCases.{read-both}
 use Rattle.station.specs.Hearing.{hearOf}
 use Rattle.station.specs.KeepsAsking.{sound}
+use Rattle.station.specs.KeepsEntering.{same-octets}
 use Rattle.station.specs.Memory.{Whole, memory-written}
 use Rattle.station.specs.Reachable.{Reachable}
 use Rattle.station.specs.TurnWritten.{assembly-long}
@@ -34,16 +31,6 @@ use Rattle.station.specs.declared.Data.the-variants.{Written}
 use Rattle.station.specs.declared.Heard.the-variants as heard
 use Rattle.station.specs.declared.Station.{Station}
 use Rattle.station.specs.declared.Token.{Token}
-
--- a cyclic frame that was read has the blocks that its areas give
-pub body-blocked : (given : ℕ) (frame other : Fields) → readBodyOf given frame ≡ Frame other → isCyclic (frame .code) ≡ true → blocked given frame ≡ true
-body-blocked given frame other e cyclic =
-    implied (isCyclic (frame .code)) (blocked given frame) (by (reading.ranged frame) (not (isCyclic (frame .code)) || blocked given frame) e) cyclic
-  where
-    by : (a b : Bool) → reading.need a refusals.Area (reading.need b refusals.Block (Frame frame)) ≡ Frame other → b ≡ true
-    by true true e = refl
-    by true false e = let z : _≡_ {A = ℕ} 0 1 = cc in absurd (omega arith)
-    by false b e = let z : _≡_ {A = ℕ} 0 1 = cc in absurd (omega arith)
 
 -- the data of a cyclic frame
 pub data-long : (octets : List ℕ) (frame : Fields) → isCyclic (frame .code) ≡ true → 64 ≤ length octets - frame .size
@@ -53,23 +40,14 @@ data-long octets frame cyclic behind =
     let all : length (reading.dataOf octets frame) ≡ length octets - (length octets - reading.dataSize frame) = length-drop (length octets - reading.dataSize frame) octets in
     omega arith
 
--- the same sizes make the same turn
-pub same-octets : (a b : Areas) → sameAreas a b ≡ true → octetsOf a ≡ octetsOf b
-same-octets a b e =
-    let one = first (eqb (a .one .address) (b .one .address) && eqb (a .one .size) (b .one .size)) (eqb (a .two .address) (b .two .address) && eqb (a .two .size) (b .two .size)) e in
-    let two = second (eqb (a .one .address) (b .one .address) && eqb (a .one .size) (b .one .size)) (eqb (a .two .address) (b .two .address) && eqb (a .two .size) (b .two .size)) e in
-    let p = eqb-true (a .one .size) (b .one .size) (second (eqb (a .one .address) (b .one .address)) (eqb (a .one .size) (b .one .size)) one) in
-    let q = eqb-true (a .two .size) (b .two .size) (second (eqb (a .two .address) (b .two .address)) (eqb (a .two .size) (b .two .size)) two) in
-    rw (p, q)
-
 -- what stands up to the end of what was put in
-pub taken-through : (d s : List ℕ) (at end : ℕ) → at ≤ length d → at + length s ≡ end → take end (pasted d at s) ≡ take at d ++ s
-taken-through d s at end h e =
-    let front : length (take at d ++ s) ≡ end = length-append (take at d) s ∙ rw (length-take at d) (omega arith) in
-    ap (take end) (sym (append-assoc (take at d) s (drop (at + length s) d))) ∙ take-at (take at d ++ s) (drop (at + length s) d) end front
-
 joined-long : (d s : List ℕ) (at end : ℕ) → at ≤ length d → at + length s ≡ end → length (take at d ++ s) ≡ end
 joined-long d s at end h e = length-append (take at d) s ∙ rw (length-take at d) (omega arith)
+
+pub taken-through : (d s : List ℕ) (at end : ℕ) → at ≤ length d → at + length s ≡ end → take end (pasted d at s) ≡ take at d ++ s
+taken-through d s at end h e =
+    ap (take end) (sym (append-assoc (take at d) s (drop (at + length s) d)))
+    ∙ take-at (take at d ++ s) (drop (at + length s) d) end (joined-long d s at end h e)
 
 pub below : (at s end all : ℕ) → at + s ≡ end → end ≤ memoryOctets → all ≡ memoryOctets → at ≤ all
 below at s end all e h l = omega arith
@@ -95,7 +73,7 @@ turn-joined station reached octets memory assembly token e w =
     let frame : Fields = found .0 in
     let whole : Whole station octets memory assembly frame = found .1 in
     let stored = found .2 in
-    let facts = is-blocked (length octets) frame (body-blocked (length octets) frame frame (whole .body) (whole .cyclic)) in
+    let facts = block-is (read-both octets frame (whole .header) (whole .body)) (whole .cyclic) in
     let ranged = sound station reached .list .each (frame .source) (whole .listed) .areas in
     let listed : Areas = entryOf (station .members) (frame .source) .areas in
     let ended = ends frame listed (reading.dataOf octets frame) facts (eqb-true (frame .block) (frame .blocks) (whole .last)) (whole .areas)

@@ -2,23 +2,18 @@
 -- data of blocks 1 to the last of its source, in order. Assumes nothing.
 use mathlib.Core.Path.{_≡_, refl, sym, subst}
 use mathlib.Core.List.{List, [], _∷_}
-use mathlib.Core.Bool.{Bool, true, false, cond, not, _&&_, false≢true}
+use mathlib.Core.Bool.{Bool, true, false, cond, _&&_, false≢true}
 use Prim.Native.Nat.{ℕ, _+_, _≤_, _<_}
 use native.Mathlib.Omega.{arith}
-use lib.Dec.{eqb, leb, ltb}
+use lib.Dec.{eqb}
 use lib.ListN.{getD, take}
 use borrow.Author.Tests.{ne-eqb}
-use Rattle.area.specs.Areas.{inRange}
 use Rattle.block.specs.Blocks.{octetsOf}
 use Rattle.frame.specs.declared.Fields.{Fields}
-use Rattle.frame.specs.declared.Refusal.{Refusal}
-use Rattle.frame.specs.declared.Refusal.the-variants as refusals
-use Rattle.members.specs.Members.{entryOf, isListed, strikes, numbersOf}
-use Rattle.members.specs.declared.Members.{Members}
-use Rattle.reading.specs.Reading.{isStation}
+use Rattle.members.specs.Members.{entryOf, isListed, strikes}
 use Rattle.station.specs.Answers.{dataOf}
-use Rattle.station.specs.ApartTicking.{station-from}
-use Rattle.station.specs.Asking as asking
+use Rattle.station.specs.KeepsStarting.{station-from}
+use Rattle.station.specs.AskCases as on-asking
 use Rattle.station.specs.Calls.{Call, start, stop, tick, hear, ask, after}
 use Rattle.station.specs.Data.{without}
 use Rattle.station.specs.Gathers.{acceptedAfter, Parts, more, Gathers, gathers-nothing, gathers-without, before-next}
@@ -27,97 +22,46 @@ use Rattle.station.specs.Hearing.{hearOf}
 use Rattle.station.specs.KeepsAsking.{sound}
 use Rattle.station.specs.Memory.{Whole}
 use Rattle.station.specs.Reachable.{Typed, Reachable, unstarted, called}
-use Rattle.station.specs.Starting.{Switching, need, startedUp}
-use Rattle.station.specs.State.{isOff, never, fresh}
-use Rattle.station.specs.Ticking.{later, tickedBy, counted, fallsDue, startupTick, joiningWait, joiningTick, watchEnds, watchEnded, participantTick}
+use Rattle.station.specs.Starting.{Switching}
+use Rattle.station.specs.State.{never, nothing}
+use Rattle.station.specs.SwitchCases.{SwitchCases, switched-to, start-cases, stop-cases}
+use Rattle.station.specs.TickCases as on-tick
+use Rattle.station.specs.Ticking.{Ticking}
 use Rattle.station.specs.TurnJoined.{turn-joined}
-use Rattle.units.specs.declared.Ticks.{Ticks}
-use Rattle.panel.specs.Panel.{ticked}
-use Rattle.station.specs.Waits.{detectionWait, acceptanceTime, numberWait, longestWatch}
 use Rattle.station.specs.declared.Data.the-variants.{Written}
 use Rattle.station.specs.declared.Heard.the-variants as answers
-use Rattle.station.specs.declared.Phase.{Phase}
-use Rattle.station.specs.declared.Phase.the-variants.{Off, Listening, Startup, Joining, Participating}
-use Rattle.station.specs.declared.Settings.{Settings}
 use Rattle.station.specs.declared.Station.{Station}
 use Rattle.station.specs.declared.Token.{Token}
-
--- one of two states
-either : {heard : List (List ℕ)} (test : Bool) (assembly : List ℕ) (a b : Station) → Gathers heard (a .gathering) assembly → Gathers heard (b .gathering) assembly
-    → Gathers heard (cond test a b .gathering) assembly
-either true assembly a b p q = p
-either false assembly a b p q = q
-
-need-gathers : {heard : List (List ℕ)} (test : Bool) (refusal : Refusal) (station : Station) (rest : Switching) (assembly : List ℕ) → Gathers heard (station .gathering) assembly
-    → Gathers heard (rest .station .gathering) assembly → Gathers heard (need test refusal station rest .station .gathering) assembly
-need-gathers true refusal station rest assembly p q = q
-need-gathers false refusal station rest assembly p q = p
+use Rattle.station.specs.Asking.{Asking}
 
 module _ {heard : List (List ℕ)} (station : Station) (assembly : List ℕ) (g : Gathers heard (station .gathering) assembly) where
   ended-gathers : (struck : Bool) → Gathers heard (cond struck (without (station .view) (station .gathering)) (station .gathering)) assembly
   ended-gathers true = gathers-without (station .view) (station .gathering) assembly g
   ended-gathers false = g
 
-  started-gathers : (own : Settings) (members : Members) (numbers : List ℕ) → Gathers heard (startedUp own members numbers .gathering) assembly
-  started-gathers own members [] = gathers-nothing assembly
-  started-gathers own members (number ∷ rest) = gathers-nothing assembly
+  tick-gathers : {result : Ticking} → on-tick.TickCases station result → Gathers heard (result .station .gathering) assembly
+  tick-gathers (on-tick.off e) = g
+  tick-gathers (on-tick.listens e) = g
+  tick-gathers (on-tick.starts e t) = g
+  tick-gathers (on-tick.lapses e t) = gathers-nothing assembly
+  tick-gathers (on-tick.begins e t) = gathers-nothing assembly
+  tick-gathers (on-tick.givesUp e t) = gathers-nothing assembly
+  tick-gathers (on-tick.learns e t r) = g
+  tick-gathers (on-tick.waits e t r) = g
+  tick-gathers (on-tick.ends e t) = ended-gathers (isListed (station .members) (station .view) && strikes (station .members) (station .view))
+  tick-gathers (on-tick.runs e t) = g
 
-  startup-gathers : (elapsed : Ticks) → Gathers heard (startupTick station elapsed .gathering) assembly
-  startup-gathers elapsed =
-      either (leb acceptanceTime (elapsed .0)) assembly
-      (startedUp (station .own) (station .members) (numbersOf (station .members)))
-      (counted station (fallsDue station (station .elapsed) elapsed) elapsed (station .waited) (station .panel))
-      (started-gathers (station .own) (station .members) (numbersOf (station .members))) g
+  ask-gathers : {memory turn output : List ℕ} {result : Asking} → on-asking.AskCases station memory turn output result
+      → Gathers heard (result .station .gathering) assembly
+  ask-gathers (on-asking.refuses refusal) = g
+  ask-gathers (on-asking.sends lent is (on-asking.triggers e due)) = gathers-nothing assembly
+  ask-gathers (on-asking.sends lent is (on-asking.requests e fallen)) = g
+  ask-gathers (on-asking.sends lent is (on-asking.begins e fallen)) = gathers-nothing assembly
+  ask-gathers (on-asking.sends lent is (on-asking.passes e held placed)) = g
 
-  joining-gathers : (elapsed : Ticks) → Gathers heard (joiningTick station elapsed .gathering) assembly
-  joining-gathers elapsed =
-      either (leb detectionWait (elapsed .0)) assembly
-      (fresh Listening (station .own))
-      (joiningWait station elapsed (cond (eqb (station .rounds) 3) (later (numberWait (station .own .number)) (station .waited)) (station .waited)))
-      (gathers-nothing assembly) g
-
-  participant-gathers : (elapsed : Ticks) → Gathers heard (participantTick station elapsed .gathering) assembly
-  participant-gathers elapsed =
-      either (watchEnds station) assembly
-      (watchEnded station)
-      (counted station (station .own) elapsed (station .waited) (ticked (station .panel)))
-      (ended-gathers (isListed (station .members) (station .view) && strikes (station .members) (station .view))) g
-
-  tick-gathers : (phase : Phase) → Gathers heard (tickedBy phase station .gathering) assembly
-  tick-gathers Off = g
-  tick-gathers Listening = g
-  tick-gathers Startup = startup-gathers (later acceptanceTime (station .elapsed))
-  tick-gathers Joining = joining-gathers (later detectionWait (station .elapsed))
-  tick-gathers Participating = participant-gathers (later longestWatch (station .elapsed))
-
-  sent-gathers : (phase : Phase) → Gathers heard (asking.sentIn phase station .gathering) assembly
-  sent-gathers Off = g
-  sent-gathers Listening = gathers-nothing assembly
-  sent-gathers Startup = g
-  sent-gathers Joining = gathers-nothing assembly
-  sent-gathers Participating = g
-
-  ask-gathers : (memory turn output : List ℕ) → Gathers heard (asking.askOf station memory turn output .station .gathering) assembly
-  ask-gathers memory turn output = by (asking.lentRight memory turn output) (asking.dueIn (station .phase) station)
-    where
-      by : (right due : Bool) → Gathers heard
-          (cond right
-          (cond due
-          (asking.written station (asking.turnAfter (station .phase) station memory turn) output)
-          (asking.refused station turn output refusals.NotDue))
-          (asking.refused station turn output refusals.Buffer) .station .gathering) assembly
-      by true true = sent-gathers (station .phase)
-      by true false = g
-      by false due = g
-
-  start-gathers : (own : Settings) → Gathers heard (after station (start own) .gathering) assembly
-  start-gathers own =
-      need-gathers (isOff (station .phase)) refusals.NotDue station _ assembly g
-      (need-gathers (isStation (own .number) && ltb 0 (own .watch .0)) refusals.Address station _ assembly g
-      (need-gathers (inRange (own .areas)) refusals.Area station _ assembly g (gathers-nothing assembly)))
-
-  stop-gathers : Gathers heard (after station stop .gathering) assembly
-  stop-gathers = need-gathers (not (isOff (station .phase))) refusals.NotDue station _ assembly g (gathers-nothing assembly)
+  switch-gathers : {left : Station} {Reason : Type 0} {result : Switching} → SwitchCases station left Reason result → left .gathering ≡ nothing
+      → Gathers heard (result .station .gathering) assembly
+  switch-gathers cases e = switched-to (λ (s : Station). Gathers heard (s .gathering) assembly) cases g (λ reason. rw e (gathers-nothing assembly))
 
 -- a call that borrows no assembly buffer
 abbrev pub hearsNothing : Call → Bool
@@ -143,11 +87,11 @@ lending-reached (calls before call typed other) = called call (lending-reached b
 
 call-gathers : {heard : List (List ℕ)} (station : Station) (assembly : List ℕ) (call : Call) → hearsNothing call ≡ true → Gathers heard (station .gathering) assembly
     → Gathers heard (after station call .gathering) assembly
-call-gathers station assembly (start settings) e g = start-gathers station assembly g settings
-call-gathers station assembly stop e g = stop-gathers station assembly g
-call-gathers station assembly tick e g = tick-gathers station assembly g (station .phase)
+call-gathers station assembly (start settings) e g = switch-gathers station assembly g (start-cases station settings) refl
+call-gathers station assembly stop e g = switch-gathers station assembly g (stop-cases station) refl
+call-gathers station assembly tick e g = tick-gathers station assembly g (on-tick.tick-cases station)
 call-gathers station assembly (hear octets memory lent) e g = absurd (false≢true e)
-call-gathers station assembly (ask memory turn output) e g = ask-gathers station assembly g memory turn output
+call-gathers station assembly (ask memory turn output) e g = ask-gathers station assembly g (on-asking.ask-cases station memory turn output)
 
 -- what is gathered stands at the front of that buffer
 pub lending-gathers : {heard : List (List ℕ)} (station : Station) (assembly : List ℕ) → Lending heard station assembly → Gathers heard (station .gathering) assembly
