@@ -6,7 +6,7 @@ use lib.Dec.{eqb}
 use Rattle.frame.specs.Refusals.{numberOf}
 use Rattle.frame.specs.declared.Refusal.{Refusal}
 use Rattle.frame.specs.declared.Refusal.the-variants.{Cut, Mark, Length, Code, Address, Taken, Area, Block, Stranger, NotDue, Buffer}
-use Rattle.station.specs.Answers.{dataNumber, tokenNumber, dataOf}
+use Rattle.station.specs.Rules.Answers.{dataNumber, tokenNumber, dataOf}
 use Rattle.station.specs.declared.Asked.{Asked}
 use Rattle.station.specs.declared.Asked.the-variants as asked
 use Rattle.station.specs.declared.Data.{Data}

@@ -7,7 +7,7 @@ use Rattle.frame.specs.declared.Refusal.{Refusal}
 use Rattle.panel.specs.Panel.{isOver, shown}
 use Rattle.panel.specs.declared.Figure.{Figure}
 use Rattle.panel.specs.declared.Figure.the-variants.{Nothing, Over, Gap}
-use Rattle.station.specs.Answers.{dataNumber, tokenNumber, dataOf}
+use Rattle.station.specs.Rules.Answers.{dataNumber, tokenNumber, dataOf}
 use Rattle.station.specs.declared.Asked.{Asked}
 use Rattle.station.specs.declared.Asked.the-variants as asked
 use Rattle.station.specs.declared.Heard.{Heard}

@@ -10,7 +10,7 @@ use station::Token;
 use units::Ticks;
 ghost use mathlib.Core.Path.{_≡_};
 ghost use Rattle.answers.specs.Numbers.{offAnswer, doneAnswer, refusedAnswer, switchedAnswer, tickedAnswer, cyclicAnswer, heardAnswer, frameAnswer, askedAnswer, gapKind, kindOf, gapTicks, ticksOf, figureNumbers};
-ghost use Rattle.station.specs.Answers.{dataNumber, tokenNumber, dataOf};
+ghost use Rattle.station.specs.Rules.Answers.{dataNumber, tokenNumber, dataOf};
 
 // An answer of any call. What the word does not point to is 0.
 #[repr(C)]

@@ -8,7 +8,7 @@ use lib.ListN.{length}
 use borrow.Author.Tests.{eqb-true, leb-true}
 use Rattle.area.specs.Areas.{memoryOctets}
 use Rattle.laws.specs.Tests.{first, second}
-use Rattle.station.specs.Asking.{lentRight}
+use Rattle.station.specs.Rules.Asking.{lentRight}
 
 pub record Lent (memory turn output : List ℕ) : Type 0 where
   pub memory-whole : length memory ≡ memoryOctets

@@ -2,7 +2,7 @@
 use station::Phase;
 use station::Station;
 ghost use mathlib.Core.Path.{_≡_};
-ghost use Rattle.station.specs.Asking.{dueIn};
+ghost use Rattle.station.specs.Rules.Asking.{dueIn};
 
 pub fn is_due(station: Station) -> bool
     ensures { λ r. ⌜ r ≡ dueIn (station .phase) station ⌝ }

@@ -22,7 +22,7 @@ ghost use lib.ListN.{length, drop};
 ghost use Rattle.area.specs.Areas.{memoryOctets};
 ghost use Rattle.block.specs.Blocks.{startOf};
 ghost use Rattle.reading.specs.Reading.{dataSize};
-ghost use Rattle.station.specs.Asking.{isPlaced, dueIn, nextBlock, dueFields, turnAfter, blockSent, sentIn, lentRight, askOf};
+ghost use Rattle.station.specs.Rules.Asking.{isPlaced, dueIn, nextBlock, dueFields, turnAfter, blockSent, sentIn, lentRight, askOf};
 ghost use Rattle.station.specs.declared.Phase.the-variants.{Participating};
 ghost use Rattle.writing.specs.Writing.{wholeLength, outputOf};
 

@@ -4,7 +4,8 @@ use station::Station;
 use units::Ticks;
 ghost use mathlib.Core.Path.{_≡_};
 ghost use mathlib.Core.Bool.{true};
-ghost use Rattle.station.specs.Asking.{isPlaced, nextStation, requestSent, blockSent};
+ghost use Rattle.station.specs.Rules.State.{requestSent};
+ghost use Rattle.station.specs.Rules.Asking.{isPlaced, nextStation, blockSent};
 
 pub fn request_sent(station: Station) -> Station
     ensures { λ r. ⌜ r ≡ requestSent station ⌝ }

@@ -9,9 +9,9 @@ use Rattle.lists.specs.Lists.{membersIn}
 use Rattle.panel.specs.Panel.{figureOf}
 use Rattle.panel.specs.declared.Figure.{Figure}
 use Rattle.panel.specs.declared.Figure.the-variants.{Nothing}
-use Rattle.station.specs.Answers.{phaseNumber}
-use Rattle.station.specs.Showing.{figureShown}
-use Rattle.station.specs.State.{isParticipating}
+use Rattle.station.specs.Rules.Answers.{phaseNumber}
+use Rattle.station.specs.Rules.Showing.{figureShown}
+use Rattle.station.specs.Rules.State.{isParticipating}
 use Rattle.station.specs.declared.Phase.{Phase}
 use Rattle.station.specs.declared.Phase.the-variants.{Off, Listening, Startup, Joining, Participating}
 use Rattle.station.specs.declared.Station.{Station}

@@ -5,7 +5,7 @@ use station::Phase;
 use station::Station;
 ghost use mathlib.Core.Path.{_≡_};
 ghost use Rattle.boundary.specs.Crossing.{phaseOf, stationOf, coreOf};
-ghost use Rattle.station.specs.Answers.{phaseNumber};
+ghost use Rattle.station.specs.Rules.Answers.{phaseNumber};
 
 pub fn phase_of(number: u8) -> Phase
     ensures { λ r. ⌜ r ≡ phaseOf number ⌝ }

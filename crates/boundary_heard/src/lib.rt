@@ -15,9 +15,9 @@ ghost use Rattle.answers.specs.Numbers.{cyclicAnswer};
 ghost use Rattle.boundary_participant.specs.Quick.{restartedCore};
 ghost use Rattle.reading.specs.Reading.{readBodyOf, dataOf};
 ghost use Rattle.reading.specs.declared.Read.the-variants as reads;
-ghost use Rattle.station.specs.Data.{gatheredFrom};
-ghost use Rattle.station.specs.Hearing.{lentRight};
-ghost use Rattle.station.specs.Token.{viewHeard};
+ghost use Rattle.station.specs.Rules.Data.{gatheredFrom};
+ghost use Rattle.station.specs.Rules.Hearing.{lentRight};
+ghost use Rattle.station.specs.Rules.Token.{viewHeard};
 
 fn restart(core: Core, view: u8, gathering: Gathering) -> Core
     ensures { λ r. ⌜ r ≡ restartedCore core view gathering ⌝ }

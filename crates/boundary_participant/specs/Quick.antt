@@ -8,7 +8,7 @@ use lib.Dec.{eqb, leb}
 use lib.ListN.{length, drop}
 use native.Mathlib.Omega.{arith}
 use borrow.Author.Tests.{eqb-true, not-true}
-use Rattle.station.specs.Asking.{placedIn, lastIn, nextFields, turnFor}
+use Rattle.station.specs.Rules.Asking.{placedIn, lastIn, nextFields, turnFor}
 use Rattle.block.specs.Blocks.{startOf}
 use Rattle.frame.specs.Codes.{isToken, isCyclic}
 use Rattle.frame.specs.declared.Fields.{Fields}
@@ -21,14 +21,14 @@ use Rattle.reading.specs.Reading.{andThen, readOf, readHeaderOf, readBodyOf, da
 use Rattle.reading.specs.declared.Read.{Read}
 use Rattle.reading.specs.declared.Read.the-variants as reads
 use Rattle.round_trip.specs.Accepted.{bodied}
-use Rattle.station.specs.Answers.{phaseNumber}
-use Rattle.station.specs.Asking as asks
-use Rattle.station.specs.Data.{gathered}
-use Rattle.station.specs.Hearing.{Hearing, hearOf, headerHeard, participantHeard, lentRight}
-use Rattle.station.specs.State.{noTicks}
-use Rattle.station.specs.Ticking.{tickOf, later}
-use Rattle.station.specs.Token.{takes}
-use Rattle.station.specs.Waits.{watchTicks, longestWatch}
+use Rattle.station.specs.Rules.Answers.{phaseNumber}
+use Rattle.station.specs.Rules.Asking as asks
+use Rattle.station.specs.Rules.Data.{gathered}
+use Rattle.station.specs.Rules.Hearing.{Hearing, hearOf, headerHeard, participantHeard, lentRight}
+use Rattle.station.specs.Rules.State.{noTicks}
+use Rattle.station.specs.Rules.Ticking.{tickOf, later}
+use Rattle.station.specs.Rules.Token.{takes}
+use Rattle.station.specs.Rules.Waits.{watchTicks, longestWatch}
 use Rattle.station.specs.declared.Asked.the-variants.{Octets}
 use Rattle.station.specs.declared.Gathering.{Gathering}
 use Rattle.station.specs.declared.Phase.the-variants.{Participating}

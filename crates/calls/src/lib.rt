@@ -14,8 +14,8 @@ ghost use Rattle.answers.specs.Numbers.{heardAnswer, askedAnswer};
 ghost use Rattle.lists.specs.Lists.{membersIn};
 ghost use Rattle.reading.specs.Reading.{readOf};
 ghost use Rattle.reading.specs.declared.Read.the-variants as reads;
-ghost use Rattle.station.specs.Asking.{askOf};
-ghost use Rattle.station.specs.Hearing.{hearOf};
+ghost use Rattle.station.specs.Rules.Asking.{askOf};
+ghost use Rattle.station.specs.Rules.Hearing.{hearOf};
 
 fn hear_frame(
     core: Core,

@@ -20,9 +20,9 @@ use Rattle.reading.specs.declared.Read.the-variants as reads
 use Rattle.settle_input.specs.Input.{linesOf, entryOf, formsFrom}
 use Rattle.settle_print.specs.Whole.{stepLines, outputOf}
 use Rattle.settle_run.specs.Run.{runFrom}
-use Rattle.station.specs.Starting.{Switching, startOf}
-use Rattle.station.specs.State.{never}
-use Rattle.station.specs.Token.{viewAfter}
+use Rattle.station.specs.Rules.Starting.{Switching, startOf}
+use Rattle.station.specs.Rules.State.{never}
+use Rattle.station.specs.Rules.Token.{viewAfter}
 use Rattle.station.specs.declared.Settings.{Settings}
 use Rattle.station.specs.declared.Station.{Station}
 use Rattle.station.specs.declared.Switched.{Switched}

@@ -6,7 +6,7 @@ ghost use mathlib.Core.Path.{_≡_};
 ghost use Rattle.boundary.specs.Crossing.{coreOf, stationIn};
 ghost use Rattle.answers.specs.Numbers.{tickedAnswer};
 ghost use Rattle.lists.specs.Lists.{membersIn};
-ghost use Rattle.station.specs.Ticking.{tickOf};
+ghost use Rattle.station.specs.Rules.Ticking.{tickOf};
 
 pub fn tick(
     core: Core,

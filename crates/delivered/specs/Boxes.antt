@@ -9,11 +9,11 @@ use Rattle.answers.specs.Numbers.{switchedAnswer, tickedAnswer, heardAnswer, as
 use Rattle.answers.specs.declared.Answer.{Answer}
 use Rattle.boundary.specs.declared.Core.{Core}
 use Rattle.lists.specs.Lists.{membersIn, Whole}
-use Rattle.station.specs.Asking.{askOf}
-use Rattle.station.specs.Calls.{Call, start, stop, tick, hear, ask, after, lent, lentAfter}
-use Rattle.station.specs.Hearing.{hearOf}
-use Rattle.station.specs.Starting.{startOf, stopOf}
-use Rattle.station.specs.Ticking.{tickOf}
+use Rattle.station.specs.Rules.Asking.{askOf}
+use Rattle.station.specs.Rules.Calls.{Call, start, stop, tick, hear, ask, after, lent, lentAfter}
+use Rattle.station.specs.Rules.Hearing.{hearOf}
+use Rattle.station.specs.Rules.Starting.{startOf, stopOf}
+use Rattle.station.specs.Rules.Ticking.{tickOf}
 use Rattle.station.specs.declared.Station.{Station}
 
 pub record Box : Type 0 where

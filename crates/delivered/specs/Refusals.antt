@@ -15,14 +15,14 @@ use Rattle.frame.specs.declared.Refusal.the-variants as refusals
 use Rattle.lists.specs.Laws.{list-told}
 use Rattle.lists.specs.Lists.{membersIn}
 use Rattle.members.specs.declared.Members.{Members}
-use Rattle.station.specs.Answers.{phaseNumber}
-use Rattle.station.specs.Asking.{askOf}
-use Rattle.station.specs.Calls.{Call, start, stop, tick, hear, ask, after, lent, Verdict, refusedBy, taken, verdict, switchedVerdict, heardVerdict, askedVerdict}
-use Rattle.station.specs.Hearing.{hearOf}
-use Rattle.station.specs.Refusing.{Spared, same, turnedOff, Left, refused-left}
-use Rattle.station.specs.Starting.{startOf, stopOf}
-use Rattle.station.specs.State.{isParticipating, stopped}
-use Rattle.station.specs.Ticking.{tickOf}
+use Rattle.station.specs.Rules.Answers.{phaseNumber}
+use Rattle.station.specs.Rules.Asking.{askOf}
+use Rattle.station.specs.Rules.Calls.{Call, start, stop, tick, hear, ask, after, lent, Verdict, refusedBy, taken, verdict, switchedVerdict, heardVerdict, askedVerdict}
+use Rattle.station.specs.Rules.Hearing.{hearOf}
+use Rattle.station.specs.RefusedLeft.{Spared, same, turnedOff, Left, refused-left}
+use Rattle.station.specs.Rules.Starting.{startOf, stopOf}
+use Rattle.station.specs.Rules.State.{isParticipating, stopped}
+use Rattle.station.specs.Rules.Ticking.{tickOf}
 use Rattle.station.specs.declared.Asked.{Asked}
 use Rattle.station.specs.declared.Asked.the-variants as asked
 use Rattle.station.specs.declared.Heard.{Heard}

@@ -16,8 +16,8 @@ use Rattle.settling.specs.Append.{finds-front}
 use Rattle.settling.specs.First.{FirstAgreement}
 use Rattle.settling.specs.Ring.{_∈_}
 use Rattle.settling.specs.Steps.{afterAll, EachFinds}
-use Rattle.station.specs.Asking.{askOf}
-use Rattle.station.specs.Calls.{Call, tick, hear, ask, after}
+use Rattle.station.specs.Rules.Asking.{askOf}
+use Rattle.station.specs.Rules.Calls.{Call, tick, hear, ask, after}
 use Rattle.station.specs.declared.Asked.{Asked}
 use Rattle.station.specs.declared.Asked.the-variants as answers
 use Rattle.station.specs.declared.Station.{Station}

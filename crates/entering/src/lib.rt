@@ -12,9 +12,9 @@ ghost use Prim.Native.Nat.{_+_, min};
 ghost use lib.Dec.{ltb};
 ghost use Rattle.frame.specs.Codes.{isToken};
 ghost use Rattle.members.specs.Listing.{listing};
-ghost use Rattle.station.specs.Hearing.{relisted, requested, enters};
-ghost use Rattle.station.specs.Starting.{endsRound, joinedBy};
-ghost use Rattle.station.specs.State.{noTicks, fresh};
+ghost use Rattle.station.specs.Rules.Hearing.{requested, enters};
+ghost use Rattle.station.specs.Rules.Starting.{endsRound, joinedBy};
+ghost use Rattle.station.specs.Rules.State.{noTicks, fresh, relisted};
 ghost use Rattle.station.specs.declared.Phase.the-variants as phases;
 ghost use Rattle.writing.specs.Writing.{noAreas};
 

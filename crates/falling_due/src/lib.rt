@@ -5,7 +5,7 @@ use station::Phase;
 use station::Settings;
 use station::Station;
 ghost use mathlib.Core.Path.{_≡_};
-ghost use Rattle.station.specs.Starting.{triggerDue, requestFallen, oursDue, ownDue};
+ghost use Rattle.station.specs.Rules.Starting.{triggerDue, requestFallen, oursDue, ownDue};
 
 pub fn trigger_due(station: Station) -> bool
     ensures { λ r. ⌜ r ≡ triggerDue station ⌝ }

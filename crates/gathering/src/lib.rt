@@ -12,7 +12,7 @@ ghost use lib.Dec.{eqb};
 ghost use lib.ListN.{length};
 ghost use Rattle.area.specs.Areas.{inRange, memoryOctets};
 ghost use Rattle.block.specs.Blocks.{startOf};
-ghost use Rattle.station.specs.Data.{turnWritten, sameAreas, isNext, storing, gatheredFrom};
+ghost use Rattle.station.specs.Rules.Data.{turnWritten, sameAreas, isNext, storing, gatheredFrom};
 
 // What gathering one block leaves of the turn, and what became of the block.
 pub struct Stored {

@@ -9,8 +9,8 @@ ghost use lib.ListN.{length};
 ghost use Rattle.frame.specs.Codes.{isCyclic};
 ghost use Rattle.reading.specs.Reading.{readBodyOf, dataOf};
 ghost use Rattle.reading.specs.declared.Read.the-variants as reads;
-ghost use Rattle.station.specs.Data.{gatheredFrom};
-ghost use Rattle.station.specs.Hearing.{lentRight};
+ghost use Rattle.station.specs.Rules.Data.{gatheredFrom};
+ghost use Rattle.station.specs.Rules.Hearing.{lentRight};
 
 // What a cyclic frame adds to what was gathered. Its data are a part of the octets heard, and are not copied before they are gathered.
 pub fn gather_frame(

@@ -10,8 +10,8 @@ ghost use lib.ListN.{length};
 ghost use Rattle.frame.specs.Codes.{isCyclic};
 ghost use Rattle.reading.specs.Reading.{readBodyOf, dataOf};
 ghost use Rattle.reading.specs.declared.Read.the-variants as reads;
-ghost use Rattle.station.specs.Data.{gathered};
-ghost use Rattle.station.specs.Hearing.{knows as knowsOf, isStranger, isTaken, afterTaken, lentRight, participantHeard, accepted, bodyHeard, headerHeard, hearOf};
+ghost use Rattle.station.specs.Rules.Data.{gathered};
+ghost use Rattle.station.specs.Rules.Hearing.{knows as knowsOf, isStranger, isTaken, afterTaken, lentRight, participantHeard, accepted, bodyHeard, headerHeard, hearOf};
 
 // A call of hear: the state after it, and the answer.
 pub struct Hearing {

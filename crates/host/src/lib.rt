@@ -9,11 +9,11 @@ ghost use Rattle.boundary.specs.Crossing.{coreOf, stationIn, figureIn};
 ghost use Rattle.answers.specs.Numbers.{switchedAnswer, tickedAnswer, heardAnswer, askedAnswer, figureNumbers};
 ghost use Rattle.lists.specs.Lists.{membersIn};
 ghost use Rattle.members.specs.Members.{noMembers};
-ghost use Rattle.station.specs.Asking.{askOf};
-ghost use Rattle.station.specs.Hearing.{hearOf};
-ghost use Rattle.station.specs.Starting.{startOf, stopOf};
-ghost use Rattle.station.specs.State.{never};
-ghost use Rattle.station.specs.Ticking.{tickOf};
+ghost use Rattle.station.specs.Rules.Asking.{askOf};
+ghost use Rattle.station.specs.Rules.Hearing.{hearOf};
+ghost use Rattle.station.specs.Rules.Starting.{startOf, stopOf};
+ghost use Rattle.station.specs.Rules.State.{never};
+ghost use Rattle.station.specs.Rules.Ticking.{tickOf};
 
 // A station that was never started: its state, and its list, which is empty.
 #[no_mangle]

@@ -14,8 +14,8 @@ ghost use Rattle.boundary_participant.specs.Quick.{isAccepted, holdsBlock};
 ghost use Rattle.lists.specs.Lists.{membersIn};
 ghost use Rattle.reading.specs.Reading.{readOf};
 ghost use Rattle.reading.specs.declared.Read.the-variants as reads;
-ghost use Rattle.station.specs.Asking as asks;
-ghost use Rattle.station.specs.Hearing.{lentRight, hearOf};
+ghost use Rattle.station.specs.Rules.Asking as asks;
+ghost use Rattle.station.specs.Rules.Hearing.{lentRight, hearOf};
 
 // The numbers of source and destination are given apart, for the places that they have in the list.
 pub fn hear(

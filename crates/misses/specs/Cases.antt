@@ -9,9 +9,9 @@ use Rattle.frame.specs.declared.Fields.{Fields}
 use Rattle.members.specs.Members.{isListed}
 use Rattle.reading.specs.Reading.{fieldsOf, readOf}
 use Rattle.round_trip.specs.Sent.{blockFields, requestFields}
-use Rattle.station.specs.Calls.{Call, start, tick, hear, ask}
-use Rattle.station.specs.History.{history, stateAfter}
-use Rattle.station.specs.State.{never}
+use Rattle.station.specs.Rules.Calls.{Call, start, tick, hear, ask}
+use Rattle.station.specs.Panel.History.{history, stateAfter}
+use Rattle.station.specs.Rules.State.{never}
 use Rattle.station.specs.declared.Settings.{Settings}
 use Rattle.units.specs.declared.Milliseconds.{Milliseconds}
 use Rattle.writing.specs.Writing.{noAreas, frameOf, headerOf, frontOf, backOf, fixedFor}

@@ -10,12 +10,12 @@ use lib.Dec.{eqb, leb, eqb·suc-suc}
 use borrow.Author.Tests.{leb-true, leb-false, eq-eqb, ne-eqb}
 use Rattle.laws.specs.Tests.{both}
 use Rattle.members.specs.Members.{isListed, strikes}
-use Rattle.station.specs.Calls.{Call, tick, after}
-use Rattle.station.specs.History.{history, stateAfter, participates}
-use Rattle.station.specs.Reachable.{Typed, Reachable, unstarted, called}
-use Rattle.station.specs.Reached.{AllTyped}
-use Rattle.station.specs.State.{never}
-use Rattle.station.specs.Ticking.{watchEnds}
+use Rattle.station.specs.Rules.Calls.{Call, tick, after}
+use Rattle.station.specs.Panel.History.{history, stateAfter, participates}
+use Rattle.station.specs.States.Reachable.{Typed, Reachable, unstarted, called}
+use Rattle.station.specs.States.Reached.{AllTyped}
+use Rattle.station.specs.Rules.State.{never}
+use Rattle.station.specs.Rules.Ticking.{watchEnds}
 use Rattle.station.specs.declared.Station.{Station}
 use Rattle.misses.specs.MissHistory.{missesSaid, ends, thirdInView, Brought, ThirdRunning}
 use Rattle.misses.specs.MissesTold.{carries}

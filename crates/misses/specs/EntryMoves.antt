@@ -13,7 +13,7 @@ use Rattle.members.specs.Listing.{listing}
 use Rattle.members.specs.Members.{nobody, noMembers, entryOf, isListed, withEntry, missesSet, cleared, struck, strikes, missed}
 use Rattle.members.specs.declared.Entry.{Entry}
 use Rattle.members.specs.declared.Members.{Members}
-use Rattle.station.specs.ListKept.{none-listed}
+use Rattle.station.specs.States.ListKept.{none-listed}
 use Rattle.units.specs.declared.Milliseconds.{Milliseconds}
 use Rattle.misses.specs.MissHistory.{missesAfter, isThird}
 

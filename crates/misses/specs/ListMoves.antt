@@ -14,24 +14,24 @@ use Rattle.members.specs.Members.{entryOf, isListed}
 use Rattle.reading.specs.Reading.{readOf}
 use Rattle.reading.specs.declared.Read.{Read}
 use Rattle.round_trip.specs.Accepted.{reads}
-use Rattle.station.specs.AskCases as on-asking
-use Rattle.station.specs.Calls.{Call, start, stop, tick, hear, ask, after, heardVerdict}
-use Rattle.station.specs.Data.{dropped}
-use Rattle.station.specs.HearCases as on-hearing
-use Rattle.station.specs.Hearing.{Hearing, requested, participantHeard}
-use Rattle.station.specs.History.{participates}
-use Rattle.station.specs.ListKept.{none-listed}
-use Rattle.station.specs.Starting.{oursDue, joinedBy, need}
-use Rattle.station.specs.State.{isParticipating, fresh, isOff, stopped}
-use Rattle.station.specs.SwitchCases.{switched-to, start-cases, stop-cases}
-use Rattle.station.specs.TickCases as on-tick
-use Rattle.station.specs.Ticking.{Ticking}
+use Rattle.station.specs.Outcomes.AskCases as on-asking
+use Rattle.station.specs.Rules.Calls.{Call, start, stop, tick, hear, ask, after, heardVerdict}
+use Rattle.station.specs.Rules.Data.{dropped}
+use Rattle.station.specs.Outcomes.HearCases as on-hearing
+use Rattle.station.specs.Rules.Hearing.{Hearing, requested, participantHeard}
+use Rattle.station.specs.Panel.History.{participates}
+use Rattle.station.specs.States.ListKept.{none-listed}
+use Rattle.station.specs.Rules.Starting.{oursDue, joinedBy, need}
+use Rattle.station.specs.Rules.State.{isParticipating, fresh, isOff, stopped}
+use Rattle.station.specs.Outcomes.SwitchCases.{switched-to, start-cases, stop-cases}
+use Rattle.station.specs.Outcomes.TickCases as on-tick
+use Rattle.station.specs.Rules.Ticking.{Ticking}
 use Rattle.station.specs.declared.Phase.{Phase}
 use Rattle.station.specs.declared.Phase.the-variants.{Off, Listening, Startup, Joining, Participating}
 use Rattle.station.specs.declared.Station.{Station}
 use Rattle.station.specs.declared.Switched.the-variants.{Done}
 use Rattle.writing.specs.Writing.{noAreas}
-use Rattle.station.specs.Asking.{Asking}
+use Rattle.station.specs.Rules.Asking.{Asking}
 use Rattle.misses.specs.EntryMoves.{Moves, same, gone, listing-moves, cleared-moves, missed-moves, first-moves}
 use Rattle.misses.specs.MissHistory.{isUnrefused, readsAs, listsIn, lists, accepts, ends, isStop}
 

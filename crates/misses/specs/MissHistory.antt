@@ -14,10 +14,10 @@ use Rattle.members.specs.Members.{isListed}
 use Rattle.reading.specs.Reading.{readOf}
 use Rattle.reading.specs.declared.Read.{Read}
 use Rattle.reading.specs.declared.Read.the-variants.{Frame, Refused}
-use Rattle.station.specs.Calls.{Call, start, stop, tick, hear, ask, Verdict, refusedBy, taken, verdict}
-use Rattle.station.specs.History.{Step, stepOf, history, stateAfter, participates, isTick}
-use Rattle.station.specs.State.{never}
-use Rattle.station.specs.Ticking.{watchEnds}
+use Rattle.station.specs.Rules.Calls.{Call, start, stop, tick, hear, ask, Verdict, refusedBy, taken, verdict}
+use Rattle.station.specs.Panel.History.{Step, stepOf, history, stateAfter, participates, isTick}
+use Rattle.station.specs.Rules.State.{never}
+use Rattle.station.specs.Rules.Ticking.{watchEnds}
 use Rattle.station.specs.declared.Phase.{Phase}
 use Rattle.station.specs.declared.Phase.the-variants.{Off, Listening, Startup, Joining, Participating}
 use Rattle.station.specs.declared.Station.{Station}

@@ -5,10 +5,10 @@ use mathlib.Core.List.{List, [], _∷_}
 use Prim.Native.Nat.{ℕ}
 use Rattle.laws.specs.Tests.{both}
 use Rattle.members.specs.Members.{entryOf, isListed}
-use Rattle.station.specs.Calls.{Call, start, stop, tick, hear, ask, after}
-use Rattle.station.specs.History.{Step, stepOf, stepsOn, history, stateAfter, participates}
-use Rattle.station.specs.ListKept.{none-listed}
-use Rattle.station.specs.State.{never}
+use Rattle.station.specs.Rules.Calls.{Call, start, stop, tick, hear, ask, after}
+use Rattle.station.specs.Panel.History.{Step, stepOf, stepsOn, history, stateAfter, participates}
+use Rattle.station.specs.States.ListKept.{none-listed}
+use Rattle.station.specs.Rules.State.{never}
 use Rattle.station.specs.declared.Station.{Station}
 use Rattle.misses.specs.EntryMoves.{Carries}
 use Rattle.misses.specs.ListMoves.{does, stop-empties}

@@ -5,8 +5,8 @@ use mathlib.Core.Bool.{Bool, false, cond, not, _||_}
 use mathlib.Core.List.{List, [], _∷_}
 use lib.Dec.{leb}
 use Rattle.frame.specs.Codes.{isCyclic}
-use Rattle.station.specs.Calls.{Call, start, stop, tick, hear, ask, verdict}
-use Rattle.station.specs.History.{Step, participates, isTick}
+use Rattle.station.specs.Rules.Calls.{Call, start, stop, tick, hear, ask, verdict}
+use Rattle.station.specs.Panel.History.{Step, participates, isTick}
 use Rattle.station.specs.declared.Station.{Station}
 use Rattle.misses.specs.MissHistory.{isUnrefused, hears}
 

@@ -10,20 +10,20 @@ use borrow.Author.Tests.{leb-false}
 use Rattle.frame.specs.Codes.{isCyclic}
 use Rattle.reading.specs.Reading.{readOf}
 use Rattle.round_trip.specs.Accepted.{reads}
-use Rattle.station.specs.AskCases as on-asking
-use Rattle.station.specs.Calls.{Call, start, stop, tick, hear, ask, after, heardVerdict, askedVerdict}
-use Rattle.station.specs.HearCases as on-hearing
-use Rattle.station.specs.Hearing.{Hearing}
-use Rattle.station.specs.History.{Step, stepOf, stepsOn, history, stateAfter, participates, isTick}
-use Rattle.station.specs.KeepsAsking.{kept, sound}
-use Rattle.station.specs.Reachable.{unstarted, Sound}
-use Rattle.station.specs.Reached.{AllTyped}
-use Rattle.station.specs.State.{never}
-use Rattle.station.specs.SwitchCases.{switched-to, start-cases, stop-cases}
-use Rattle.station.specs.TickCases as on-tick
-use Rattle.station.specs.Ticking.{watchEnds, Ticking}
+use Rattle.station.specs.Outcomes.AskCases as on-asking
+use Rattle.station.specs.Rules.Calls.{Call, start, stop, tick, hear, ask, after, heardVerdict, askedVerdict}
+use Rattle.station.specs.Outcomes.HearCases as on-hearing
+use Rattle.station.specs.Rules.Hearing.{Hearing}
+use Rattle.station.specs.Panel.History.{Step, stepOf, stepsOn, history, stateAfter, participates, isTick}
+use Rattle.station.specs.States.Sound.{kept, sound}
+use Rattle.station.specs.States.Reachable.{unstarted, Sound}
+use Rattle.station.specs.States.Reached.{AllTyped}
+use Rattle.station.specs.Rules.State.{never}
+use Rattle.station.specs.Outcomes.SwitchCases.{switched-to, start-cases, stop-cases}
+use Rattle.station.specs.Outcomes.TickCases as on-tick
+use Rattle.station.specs.Rules.Ticking.{watchEnds, Ticking}
 use Rattle.station.specs.declared.Station.{Station}
-use Rattle.station.specs.Asking.{Asking}
+use Rattle.station.specs.Rules.Asking.{Asking}
 use Rattle.misses.specs.MissHistory.{isUnrefused, readsAs, hears}
 use Rattle.misses.specs.WatchHistory.{sends, restarts, endsAfter, runAfter, watchRun}
 

@@ -7,7 +7,7 @@ use lib.Dec.{eqb, leb, ltb}
 use borrow.Author.Tests.{ltb-true, eqb-true, eqb-false, le-leb, lt-leb}
 use Rattle.area.specs.Areas.{inRange, memoryOctets}
 use Rattle.area.specs.declared.Areas.{Areas}
-use Rattle.station.specs.Asking.{placedIn, lastIn}
+use Rattle.station.specs.Rules.Asking.{placedIn, lastIn}
 use Rattle.block.specs.Blocks.{blocksOf, lengthOf}
 use Rattle.block.specs.Cut.{seventeen, within, fits}
 use Rattle.laws.specs.Tests.{first, second}

@@ -8,7 +8,7 @@ ghost use mathlib.Core.Bool.{true, cond, _&&_};
 ghost use Prim.Native.Nat.{_+_};
 ghost use lib.Dec.{eqb};
 ghost use Rattle.panel.specs.Panel.{taken};
-ghost use Rattle.station.specs.Asking.{placedIn, lastIn, lentRight};
+ghost use Rattle.station.specs.Rules.Asking.{placedIn, lastIn, lentRight};
 
 pub fn is_lent_right(memory: &[u8], turn: &[u8], output: &[u8]) -> bool
     ensures { λ r. ⌜ r ≡ lentRight (now (memory .entry)) (now (turn .entry)) (now (output .entry)) ⌝ }

@@ -62,25 +62,25 @@ use Rattle.settling.specs.Ring.{_∈_, Ascending, Views, Within, Agreed, move, 
 use Rattle.settling.specs.Ring as theory
 use Rattle.settling.specs.Settling.{Settles, settles}
 use Rattle.settling.specs.Steps.{afterAll, EachFinds}
-use Rattle.station.specs.Answers.{dataOf}
-use Rattle.station.specs.Apart.{Apart}
-use Rattle.station.specs.AskedHeard.{frame-asked, frame-accepted}
-use Rattle.station.specs.Asking.{askOf, dueFields}
-use Rattle.station.specs.Calls.{Call, hear, after, lent, lentAfter, Verdict, refusedBy, taken, verdict}
-use Rattle.station.specs.Gathers.{Parts}
-use Rattle.station.specs.Hearing.{hearOf, knows, lentRight}
-use Rattle.station.specs.History.{stepOf, stateAfter, history, participates, takings, lastGap}
-use Rattle.station.specs.Memory.{Whole, memory-same}
-use Rattle.station.specs.OursKept.{InAreas, ours-kept}
-use Rattle.station.specs.PanelIsGap.{panel-is-gap}
-use Rattle.station.specs.Reachable.{Reachable, Sound, hasView}
-use Rattle.station.specs.Reached.{AllTyped, sound-after, apart-after}
-use Rattle.station.specs.Refusing.{Spared, same, turnedOff, refused-left}
-use Rattle.station.specs.Showing.{figureShown}
-use Rattle.station.specs.Starting.{requestFallen}
-use Rattle.station.specs.State.{never, isOff, isParticipating, stopped}
-use Rattle.station.specs.TurnWhole.{Lending, turn-whole}
-use Rattle.station.specs.TurnWritten.{Turned, turn-written}
+use Rattle.station.specs.Rules.Answers.{dataOf}
+use Rattle.station.specs.States.Disjoint.{Apart}
+use Rattle.station.specs.Frames.FrameAccepted.{frame-asked, frame-accepted}
+use Rattle.station.specs.Rules.Asking.{askOf, dueFields}
+use Rattle.station.specs.Rules.Calls.{Call, hear, after, lent, lentAfter, Verdict, refusedBy, taken, verdict}
+use Rattle.station.specs.Memory.Gathers.{Parts}
+use Rattle.station.specs.Rules.Hearing.{hearOf, knows, lentRight}
+use Rattle.station.specs.Panel.History.{stepOf, stateAfter, history, participates, takings, lastGap}
+use Rattle.station.specs.Memory.MemorySame.{Whole, memory-same}
+use Rattle.station.specs.Memory.OursKept.{InAreas, ours-kept}
+use Rattle.station.specs.Panel.PanelIsGap.{panel-is-gap}
+use Rattle.station.specs.States.Reachable.{Reachable, Sound, hasView}
+use Rattle.station.specs.States.Reached.{AllTyped, sound-after, apart-after}
+use Rattle.station.specs.RefusedLeft.{Spared, same, turnedOff, refused-left}
+use Rattle.station.specs.Rules.Showing.{figureShown}
+use Rattle.station.specs.Rules.Starting.{requestFallen}
+use Rattle.station.specs.Rules.State.{never, isOff, isParticipating, stopped}
+use Rattle.station.specs.Memory.TurnWhole.{Lending, turn-whole}
+use Rattle.station.specs.Memory.TurnWritten.{Turned, turn-written}
 use Rattle.station.specs.declared.Asked.the-variants.{Octets}
 use Rattle.station.specs.declared.Data.the-variants.{Written}
 use Rattle.station.specs.declared.Heard.the-variants as heard

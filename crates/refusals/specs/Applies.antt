@@ -16,10 +16,10 @@ use Rattle.frame.specs.declared.Fields.{Fields}
 use Rattle.frame.specs.declared.Refusal.{Refusal}
 use Rattle.frame.specs.declared.Refusal.the-variants.{Cut, Mark, Length, Code, Address, Taken, Area, Block, Stranger, NotDue, Buffer}
 use Rattle.reading.specs.Reading.{marked, codeIn, fieldsOf, isStation}
-use Rattle.station.specs.Asking.{dueIn}
-use Rattle.station.specs.Calls.{Call, start, stop, tick, hear, ask, Verdict, refusedBy, taken}
-use Rattle.station.specs.Hearing.{knows}
-use Rattle.station.specs.State.{isOff, isParticipating}
+use Rattle.station.specs.Rules.Asking.{dueIn}
+use Rattle.station.specs.Rules.Calls.{Call, start, stop, tick, hear, ask, Verdict, refusedBy, taken}
+use Rattle.station.specs.Rules.Hearing.{knows}
+use Rattle.station.specs.Rules.State.{isOff, isParticipating}
 use Rattle.station.specs.declared.Station.{Station}
 
 -- the fields as they stand in the octets heard. An octet that is not there reads 0. A code that is none of the four is none of 65000, 65001

@@ -11,8 +11,8 @@ use Rattle.members.specs.Listing.{listing}
 use Rattle.members.specs.Members.{noMembers}
 use Rattle.reading.specs.Reading.{fieldsOf}
 use Rattle.round_trip.specs.Sent.{blockFields, requestFields, triggerFields}
-use Rattle.station.specs.Calls.{Call, start, stop, tick, hear, ask, Verdict, refusedBy, taken, verdict, after}
-use Rattle.station.specs.State.{fresh, stopped, begun}
+use Rattle.station.specs.Rules.Calls.{Call, start, stop, tick, hear, ask, Verdict, refusedBy, taken, verdict, after}
+use Rattle.station.specs.Rules.State.{fresh, stopped, begun}
 use Rattle.station.specs.declared.Phase.the-variants.{Listening}
 use Rattle.station.specs.declared.Settings.{Settings}
 use Rattle.station.specs.declared.Station.{Station}

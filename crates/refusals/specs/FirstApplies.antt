@@ -11,11 +11,11 @@ use Rattle.frame.specs.declared.Refusal.the-variants as refusals
 use Rattle.reading.specs.Reading as reading
 use Rattle.reading.specs.declared.Read.{Read}
 use Rattle.reading.specs.declared.Read.the-variants.{Frame, Refused}
-use Rattle.station.specs.Asking.{Asking}
-use Rattle.station.specs.Calls.{Call, start, stop, tick, hear, ask, Verdict, refusedBy, taken, verdict, switchedVerdict, heardVerdict, askedVerdict}
-use Rattle.station.specs.Hearing.{Hearing, lentRight, isTaken, isStranger, bodyHeard, headerHeard}
-use Rattle.station.specs.Refusing.{accepted-taken}
-use Rattle.station.specs.Starting.{Switching, need}
+use Rattle.station.specs.Rules.Asking.{Asking}
+use Rattle.station.specs.Rules.Calls.{Call, start, stop, tick, hear, ask, Verdict, refusedBy, taken, verdict, switchedVerdict, heardVerdict, askedVerdict}
+use Rattle.station.specs.Rules.Hearing.{Hearing, lentRight, isTaken, isStranger, bodyHeard, headerHeard}
+use Rattle.station.specs.RefusedLeft.{accepted-taken}
+use Rattle.station.specs.Rules.Starting.{Switching, need}
 use Rattle.station.specs.declared.Station.{Station}
 use Rattle.refusals.specs.Applies.{firstApplying}
 

@@ -12,8 +12,8 @@ use Rattle.frame.specs.declared.Refusal.the-variants as refusals
 use Rattle.reading.specs.Reading.{need, andThen, readOf}
 use Rattle.reading.specs.declared.Read.{Read}
 use Rattle.reading.specs.declared.Read.the-variants.{Frame, Refused}
-use Rattle.station.specs.Calls.{hear, Verdict, refusedBy, taken}
-use Rattle.station.specs.State.{never}
+use Rattle.station.specs.Rules.Calls.{hear, Verdict, refusedBy, taken}
+use Rattle.station.specs.Rules.State.{never}
 use Rattle.refusals.specs.Applies.{frameIn, applies, firstOf}
 use Rattle.refusals.specs.FirstApplies.{by-not, by-and, by-or, fewer}
 

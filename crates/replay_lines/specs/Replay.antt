@@ -11,7 +11,7 @@ use Rattle.input_line.specs.Gathering.{fresh, pushed}
 use Rattle.input_line.specs.declared.Line.{Line}
 use Rattle.replaying.specs.Replaying.{Kept, keeping, Performed, performed}
 use Rattle.replies.specs.Replies.{badText}
-use Rattle.station.specs.State.{never}
+use Rattle.station.specs.Rules.State.{never}
 use Rattle.station.specs.declared.Station.{Station}
 
 -- what is carried from octet to octet: what is kept between commands, the line so far, and what is stored of it

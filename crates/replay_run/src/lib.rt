@@ -11,7 +11,7 @@ ghost use lib.ListN.{length, take};
 ghost use Rattle.feeding.specs.Feeding.{between, Onward, Taken, Arrived};
 ghost use Rattle.input_line.specs.Gathering.{fresh};
 ghost use Rattle.replay_lines.specs.Replay.{held, after, Answering, start, answerToRest};
-ghost use Rattle.station.specs.State.{never};
+ghost use Rattle.station.specs.Rules.State.{never};
 
 // Hands an answer to standard output. No contract can say what is written; that it is the answer is asked of the caller.
 fn write_answer(going: Going, part: &[u8], to: usize, text: &[u8]) -> bool

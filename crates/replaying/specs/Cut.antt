@@ -10,7 +10,7 @@ use borrow.Author.Tests.{lt-leb, le-leb}
 use Rattle.frame.specs.declared.Refusal.the-variants.{Cut}
 use Rattle.reading.specs.Reading.{readHeaderOf}
 use Rattle.reading.specs.declared.Read.the-variants.{Refused}
-use Rattle.station.specs.Hearing.{hearOf}
+use Rattle.station.specs.Rules.Hearing.{hearOf}
 use Rattle.station.specs.declared.Station.{Station}
 
 -- more than 1120 octets are refused by number 1

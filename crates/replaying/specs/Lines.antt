@@ -21,7 +21,7 @@ use Rattle.commands.specs.declared.Command.{Command}
 use Rattle.commands.specs.declared.Command.the-variants.{Start, Stop, Tick, Hear, Ask, Panel, Peek, State, Bad}
 use Rattle.input_line.specs.Gathering.{longest, fresh, pushedAll, bufferAll}
 use Rattle.settle_input.specs.Form.{before-most}
-use Rattle.station.specs.Hearing.{hearOf}
+use Rattle.station.specs.Rules.Hearing.{hearOf}
 use Rattle.replaying.specs.Cut.{hear-cut}
 use Rattle.replaying.specs.Replaying.{Kept, heard, poked, digitsIn, performed}
 

@@ -8,11 +8,11 @@ use Rattle.commands.specs.declared.Command.the-variants.{Start, Stop, Tick, Hea
 use Rattle.copying.specs.Pasted.{pasted}
 use Rattle.replies.specs.Replies.{doneText, badText, switchedText, tickedText, heardText, askedText, panelText, octetsText}
 use Rattle.reply_state.specs.State.{stateText}
-use Rattle.station.specs.Asking.{Asking, askOf}
-use Rattle.station.specs.Hearing.{Hearing, hearOf}
-use Rattle.station.specs.Showing.{figureShown}
-use Rattle.station.specs.Starting.{Switching, startOf, stopOf}
-use Rattle.station.specs.Ticking.{Ticking, tickOf}
+use Rattle.station.specs.Rules.Asking.{Asking, askOf}
+use Rattle.station.specs.Rules.Hearing.{Hearing, hearOf}
+use Rattle.station.specs.Rules.Showing.{figureShown}
+use Rattle.station.specs.Rules.Starting.{Switching, startOf, stopOf}
+use Rattle.station.specs.Rules.Ticking.{Ticking, tickOf}
 use Rattle.station.specs.declared.Station.{Station}
 
 -- what is kept between commands: the station and its buffers

@@ -14,8 +14,8 @@ ghost use Rattle.words.specs.Octets.{octetsOf};
 ghost use Rattle.copying.specs.Pasted.{pasted};
 ghost use Rattle.replaying.specs.Replaying.{ticksOf, pokedBy, keeping, performed};
 ghost use Rattle.replies.specs.Replies.{doneText, switchedText, tickedText, heardText, askedText, octetsText};
-ghost use Rattle.station.specs.Asking.{askOf};
-ghost use Rattle.station.specs.Hearing.{hearOf};
+ghost use Rattle.station.specs.Rules.Asking.{askOf};
+ghost use Rattle.station.specs.Rules.Hearing.{hearOf};
 
 // The state after a command, and the length of the line that is answered.
 pub struct Reply {

@@ -2,7 +2,7 @@
 use Prim.Native.Nat.{ℕ}
 use mathlib.Core.List.{List, [], _∷_}
 use Rattle.reply_parts.specs.Lines.{ended, spaced}
-use Rattle.station.specs.Answers.{dataOf}
+use Rattle.station.specs.Rules.Answers.{dataOf}
 use Rattle.station.specs.declared.Data.{Data}
 use Rattle.station.specs.declared.Data.the-variants.{Kept, Written, Dropped}
 use Rattle.station.specs.declared.Token.{Token}

@@ -14,11 +14,11 @@ use Rattle.misses.specs.CoverThird.{brought-more}
 use Rattle.misses.specs.MissHistory.{Brought}
 use Rattle.reading.specs.Reading.{isStation, dataOf}
 use Rattle.settling.specs.Ring.{_∈_, next, viewAfterPass}
-use Rattle.station.specs.Asking as asking
-use Rattle.station.specs.Calls.{hear, ask}
-use Rattle.station.specs.Data.{gathered}
-use Rattle.station.specs.State.{holds}
-use Rattle.station.specs.Token.{viewHeard, viewAfter, restarted}
+use Rattle.station.specs.Rules.Asking as asking
+use Rattle.station.specs.Rules.Calls.{hear, ask}
+use Rattle.station.specs.Rules.Data.{gathered}
+use Rattle.station.specs.Rules.State.{holds}
+use Rattle.station.specs.Rules.Token.{viewHeard, viewAfter, restarted}
 use Rattle.station.specs.declared.Asked.{Asked}
 use Rattle.station.specs.declared.Asked.the-variants as answers
 use Rattle.station.specs.declared.Settings.{Settings}

@@ -15,11 +15,11 @@ use Rattle.reading.specs.Reading.{fieldsOf}
 use Rattle.round_trip.specs.Sent.{blockFields}
 use Rattle.settling.specs.Next.{ascending-cons}
 use Rattle.settling.specs.Ring.{_∈_, Stations as Ascending}
-use Rattle.station.specs.Asking.{askOf, dueFields, dueIn, lentRight, nextBlock, nextStation, refused, turnAfter, written}
-use Rattle.station.specs.Calls.{Call, start, tick, hear, ask, after, taken, verdict}
-use Rattle.station.specs.History.{stateAfter}
-use Rattle.station.specs.Reachable.{Reachable, unstarted, called, TypedSettings}
-use Rattle.station.specs.State.{never}
+use Rattle.station.specs.Rules.Asking.{askOf, dueFields, dueIn, lentRight, nextBlock, nextStation, refused, turnAfter, written}
+use Rattle.station.specs.Rules.Calls.{Call, start, tick, hear, ask, after, taken, verdict}
+use Rattle.station.specs.Panel.History.{stateAfter}
+use Rattle.station.specs.States.Reachable.{Reachable, unstarted, called, TypedSettings}
+use Rattle.station.specs.Rules.State.{never}
 use Rattle.station.specs.declared.Phase.the-variants.{Participating}
 use Rattle.station.specs.declared.Settings.{Settings}
 use Rattle.station.specs.declared.Station.{Station}

@@ -11,7 +11,7 @@ use Rattle.reading.specs.Reading.{readOf}
 use Rattle.reading.specs.declared.Read.{Read}
 use Rattle.reading.specs.declared.Read.the-variants as read
 use Rattle.settling.specs.Ring.{_∈_, next, viewAfterPass}
-use Rattle.station.specs.Asking.{askOf}
+use Rattle.station.specs.Rules.Asking.{askOf}
 use Rattle.station.specs.declared.Asked.{Asked}
 use Rattle.station.specs.declared.Asked.the-variants as answers
 use Rattle.ring.specs.Events.{Stations, Lent, Event, asked, ticked, stray, afterEvent, endsWatch}

@@ -11,9 +11,9 @@ use Rattle.reading.specs.Reading.{readOf}
 use Rattle.reading.specs.declared.Read.the-variants.{Frame}
 use Rattle.settling.specs.Ring.{_∈_, Stations as Ascending}
 use Rattle.settling.specs.Steps.{afterAll, EachFinds}
-use Rattle.station.specs.Asking.{askOf}
-use Rattle.station.specs.Calls.{after, hear, ask, taken, verdict}
-use Rattle.station.specs.Reachable.{Reachable, Typed}
+use Rattle.station.specs.Rules.Asking.{askOf}
+use Rattle.station.specs.Rules.Calls.{after, hear, ask, taken, verdict}
+use Rattle.station.specs.States.Reachable.{Reachable, Typed}
 use Rattle.station.specs.declared.Asked.the-variants.{Octets}
 use Rattle.station.specs.declared.Phase.the-variants.{Participating}
 use Rattle.station.specs.declared.Station.{Station}

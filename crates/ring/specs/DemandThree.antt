@@ -8,10 +8,10 @@ use Rattle.reading.specs.Reading.{isStation}
 use Rattle.settling.specs.First.{FirstAgreement, first-exists, agreed?}
 use Rattle.settling.specs.Ring.{_∈_}
 use Rattle.settling.specs.Steps.{EachFinds}
-use Rattle.station.specs.Calls.{ask, hear}
-use Rattle.station.specs.KeepsAsking.{sound}
-use Rattle.station.specs.Reachable.{Reachable, called, Sound}
-use Rattle.station.specs.State.{isOff}
+use Rattle.station.specs.Rules.Calls.{ask, hear}
+use Rattle.station.specs.States.Sound.{sound}
+use Rattle.station.specs.States.Reachable.{Reachable, called, Sound}
+use Rattle.station.specs.Rules.State.{isOff}
 use Rattle.station.specs.declared.Station.{Station}
 use Rattle.ring.specs.Demand.{LastCall, sent, heard, Disturbed, RingSettles}
 use Rattle.ring.specs.Events.{Stations, Event, afterEvent, viewsOf, AllName, CanCome}

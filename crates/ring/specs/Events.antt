@@ -13,11 +13,11 @@ use Rattle.misses.specs.MissHistory.{ThirdRunning}
 use Rattle.reading.specs.Reading.{readOf}
 use Rattle.reading.specs.declared.Read.the-variants.{Frame}
 use Rattle.settling.specs.Ring.{_∈_, Agreed}
-use Rattle.station.specs.Asking as asking
-use Rattle.station.specs.Calls.{Call, start, hear, after, refusedBy, verdict}
-use Rattle.station.specs.Hearing as hearing
-use Rattle.station.specs.State.{isParticipating, holds}
-use Rattle.station.specs.Ticking.{tickOf, watchEnds}
+use Rattle.station.specs.Rules.Asking as asking
+use Rattle.station.specs.Rules.Calls.{Call, start, hear, after, refusedBy, verdict}
+use Rattle.station.specs.Rules.Hearing as hearing
+use Rattle.station.specs.Rules.State.{isParticipating, holds}
+use Rattle.station.specs.Rules.Ticking.{tickOf, watchEnds}
 use Rattle.station.specs.declared.Asked.{Asked}
 use Rattle.station.specs.declared.Asked.the-variants as answers
 use Rattle.station.specs.declared.Settings.{Settings}

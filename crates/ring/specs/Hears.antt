@@ -11,9 +11,9 @@ use Rattle.frame.specs.declared.Fields.{Fields}
 use Rattle.reading.specs.Reading.{readOf, dataOf}
 use Rattle.reading.specs.declared.Read.the-variants.{Frame}
 use Rattle.settling.specs.Ring.{_∈_}
-use Rattle.station.specs.AskedHeard as heard
-use Rattle.station.specs.Data.{gathered}
-use Rattle.station.specs.Hearing.{knows, lentRight, participantHeard, hearOf}
+use Rattle.station.specs.Frames.FrameAccepted as heard
+use Rattle.station.specs.Rules.Data.{gathered}
+use Rattle.station.specs.Rules.Hearing.{knows, lentRight, participantHeard, hearOf}
 use Rattle.station.specs.declared.Station.{Station}
 use Rattle.ring.specs.Member.{InRing, listed}
 

@@ -12,16 +12,16 @@ use Rattle.frame.specs.declared.Refusal.{Refusal}
 use Rattle.reading.specs.Reading.{readOf}
 use Rattle.reading.specs.declared.Read.the-variants.{Frame}
 use Rattle.round_trip.specs.Accepted.{reads}
-use Rattle.station.specs.AskCases as on-asking
-use Rattle.station.specs.Calls.{taken, refusedBy, heardVerdict}
-use Rattle.station.specs.HearCases as on-hearing
-use Rattle.station.specs.State.{isParticipating}
+use Rattle.station.specs.Outcomes.AskCases as on-asking
+use Rattle.station.specs.Rules.Calls.{taken, refusedBy, heardVerdict}
+use Rattle.station.specs.Outcomes.HearCases as on-hearing
+use Rattle.station.specs.Rules.State.{isParticipating}
 use Rattle.station.specs.declared.Asked.the-variants.{Octets}
 use Rattle.station.specs.declared.Phase.{Phase}
 use Rattle.station.specs.declared.Phase.the-variants.{Participating}
 use Rattle.station.specs.declared.Station.{Station}
-use Rattle.station.specs.Asking.{Asking}
-use Rattle.station.specs.Hearing.{Hearing}
+use Rattle.station.specs.Rules.Asking.{Asking}
+use Rattle.station.specs.Rules.Hearing.{Hearing}
 use Rattle.ring.specs.Demand.{LastCall, sent, heard}
 
 -- two phases are not one

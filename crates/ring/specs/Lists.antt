@@ -9,7 +9,7 @@ use Rattle.members.specs.Members.{nobody, isListed, withEntry, numbersFrom, wit
 use Rattle.members.specs.declared.Entry.{Entry}
 use Rattle.members.specs.declared.Members.{Members}
 use Rattle.settling.specs.Ring.{_∈_}
-use Rattle.station.specs.RingKept.{in-ring}
+use Rattle.station.specs.States.RingKept.{in-ring}
 
 -- an entry that is listed as the one before it was leaves the numbers as they were
 numbers-set : (entries : List Entry) (at number : ℕ) (entry : Entry) → entry .listed ≡ getD entries at nobody .listed →

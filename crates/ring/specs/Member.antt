@@ -12,8 +12,8 @@ use Rattle.members.specs.Members.{entryOf, isListed, withEntry, ringOf, nextAft
 use Rattle.members.specs.declared.Members.{Members}
 use Rattle.panel.specs.declared.Panel.{Panel}
 use Rattle.settling.specs.Ring.{_∈_, next}
-use Rattle.station.specs.Asking.{nextBlock, isLast, nextStation, blockSent}
-use Rattle.station.specs.Token.{restarted}
+use Rattle.station.specs.Rules.Asking.{nextBlock, isLast, nextStation, blockSent}
+use Rattle.station.specs.Rules.Token.{restarted}
 use Rattle.station.specs.declared.Gathering.{Gathering}
 use Rattle.station.specs.declared.Phase.the-variants.{Participating}
 use Rattle.station.specs.declared.Station.{Station}

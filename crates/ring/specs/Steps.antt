@@ -18,10 +18,10 @@ use Rattle.reading.specs.Reading.{isStation, readOf}
 use Rattle.reading.specs.declared.Read.the-variants.{Frame}
 use Rattle.settling.specs.Ring.{_∈_, next}
 use Rattle.writing.specs.Writing.{wholeLength}
-use Rattle.station.specs.Asked.{CanSend, asked-back}
-use Rattle.station.specs.Asking as asking
-use Rattle.station.specs.State.{holds}
-use Rattle.station.specs.Token.{viewHeard, viewAfter}
+use Rattle.station.specs.Frames.Asked.{CanSend, asked-back}
+use Rattle.station.specs.Rules.Asking as asking
+use Rattle.station.specs.Rules.State.{holds}
+use Rattle.station.specs.Rules.Token.{viewHeard, viewAfter}
 use Rattle.station.specs.declared.Asked.the-variants as answers
 use Rattle.station.specs.declared.Station.{Station}
 use Rattle.ring.specs.Events.{Stations}

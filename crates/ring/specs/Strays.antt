@@ -15,11 +15,11 @@ use Rattle.reading.specs.Reading.{readOf}
 use Rattle.reading.specs.declared.Read.the-variants.{Frame}
 use Rattle.round_trip.specs.Accepted.{reads}
 use Rattle.settling.specs.Ring.{_∈_}
-use Rattle.station.specs.Calls.{Call, start, after, refusedBy, verdict}
-use Rattle.station.specs.HearCases as on-hearing
-use Rattle.station.specs.Hearing.{Hearing, requested}
-use Rattle.station.specs.Refusing.{Spared, same, turnedOff, refused-left}
-use Rattle.station.specs.State.{isParticipating}
+use Rattle.station.specs.Rules.Calls.{Call, start, after, refusedBy, verdict}
+use Rattle.station.specs.Outcomes.HearCases as on-hearing
+use Rattle.station.specs.Rules.Hearing.{Hearing, requested}
+use Rattle.station.specs.RefusedLeft.{Spared, same, turnedOff, refused-left}
+use Rattle.station.specs.Rules.State.{isParticipating}
 use Rattle.station.specs.declared.Station.{Station}
 use Rattle.ring.specs.Counts.{Does, nothing}
 use Rattle.ring.specs.Events.{Stations, stray, afterEvent, Stray, refused, starts, harmless, CanCome}

@@ -11,10 +11,10 @@ use Rattle.laws.specs.Tests.{first, second}
 use Rattle.misses.specs.CoverThird.{brought-more, strikesInView, cover-third}
 use Rattle.misses.specs.MissHistory.{Brought}
 use Rattle.settling.specs.Ring.{_∈_, next}
-use Rattle.station.specs.Calls.{tick}
-use Rattle.station.specs.State.{isParticipating}
-use Rattle.station.specs.Ticking.{watchEnds, watchEnded, counted, later}
-use Rattle.station.specs.Waits.{longestWatch}
+use Rattle.station.specs.Rules.Calls.{tick}
+use Rattle.station.specs.Rules.State.{isParticipating, counted}
+use Rattle.station.specs.Rules.Ticking.{watchEnds, watchEnded, later}
+use Rattle.station.specs.Rules.Waits.{longestWatch}
 use Rattle.station.specs.declared.Station.{Station}
 use Rattle.ring.specs.Counts.{Does, silent, nothing}
 use Rattle.ring.specs.Events.{Stations, ticked, afterEvent, endsWatch, CanCome}

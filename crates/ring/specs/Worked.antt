@@ -11,8 +11,8 @@ use Rattle.members.specs.Members.{ringOf}
 use Rattle.reading.specs.Reading.{fieldsOf, readOf}
 use Rattle.settling.specs.First.{FirstAgreement}
 use Rattle.settling.specs.Ring.{_∈_}
-use Rattle.station.specs.Calls.{after}
-use Rattle.station.specs.State.{holds}
+use Rattle.station.specs.Rules.Calls.{after}
+use Rattle.station.specs.Rules.State.{holds}
 use Rattle.station.specs.declared.Phase.the-variants.{Participating}
 use Rattle.station.specs.declared.Station.{Station}
 use Rattle.writing.specs.Writing.{headerOf, frontOf, backOf, fixedFor}

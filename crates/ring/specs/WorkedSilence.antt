@@ -15,9 +15,9 @@ use Rattle.reading.specs.Reading.{fieldsOf, readOf, isStation}
 use Rattle.settling.specs.First.{FirstAgreement}
 use Rattle.settling.specs.Ring.{_∈_}
 use Rattle.settling.specs.Steps.{afterAll, EachFinds}
-use Rattle.station.specs.Calls.{tick}
-use Rattle.station.specs.State.{isParticipating, holds}
-use Rattle.station.specs.Ticking.{watchEnds}
+use Rattle.station.specs.Rules.Calls.{tick}
+use Rattle.station.specs.Rules.State.{isParticipating, holds}
+use Rattle.station.specs.Rules.Ticking.{watchEnds}
 use Rattle.station.specs.declared.Station.{Station}
 use Rattle.writing.specs.Writing.{headerOf, frontOf, backOf, fixedFor}
 use Rattle.ring.specs.Bringing.{tokenOctets, one, two, three, one-reached, two-reached, three-reached, one-heard, three-heard, numbers, ascending, at-1, at-2, at-3, each}

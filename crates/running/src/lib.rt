@@ -8,8 +8,8 @@ ghost use mathlib.Core.Path.{_≡_};
 ghost use Rattle.boundary.specs.Crossing.{coreOf, stationIn};
 ghost use Rattle.answers.specs.Numbers.{switchedAnswer, tickedAnswer};
 ghost use Rattle.lists.specs.Lists.{membersIn};
-ghost use Rattle.station.specs.Starting.{startOf, stopOf};
-ghost use Rattle.station.specs.Ticking.{tickOf};
+ghost use Rattle.station.specs.Rules.Starting.{startOf, stopOf};
+ghost use Rattle.station.specs.Rules.Ticking.{tickOf};
 
 pub fn start(
     core: Core,

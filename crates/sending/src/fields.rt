@@ -5,7 +5,7 @@ use station::Settings;
 ghost use mathlib.Core.Path.{_≡_};
 ghost use mathlib.Core.Bool.{true, cond};
 ghost use Rattle.frame.specs.declared.Code.the-variants.{Token, Cyclic};
-ghost use Rattle.station.specs.Asking.{placedIn, nextFields};
+ghost use Rattle.station.specs.Rules.Asking.{placedIn, nextFields};
 
 // "The last is code 65000"
 fn block_code(last: bool) -> Code

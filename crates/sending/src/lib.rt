@@ -13,7 +13,7 @@ ghost use lib.ListN.{length, drop};
 ghost use Rattle.area.specs.Areas.{memoryOctets};
 ghost use Rattle.block.specs.Blocks.{startOf};
 ghost use Rattle.reading.specs.Reading.{dataSize};
-ghost use Rattle.station.specs.Asking.{placedIn, nextFields, turnFor};
+ghost use Rattle.station.specs.Rules.Asking.{placedIn, nextFields, turnFor};
 ghost use Rattle.writing.specs.Writing.{wholeLength, fixed, outputOf};
 
 // Writes the frame of a block that has its data in front of `octets`: what `writing::write_frame` would write, without a struct in memory.

@@ -7,9 +7,9 @@ ghost use mathlib.Core.Bool.{true};
 ghost use Prim.Native.Nat.{_+_, _*_, _≤_};
 ghost use lib.ListN.{length};
 ghost use Rattle.area.specs.Areas.{inArea, inRange, memoryOctets, spanOf};
-ghost use Rattle.station.specs.Asking.{turnFor};
+ghost use Rattle.station.specs.Rules.Asking.{turnFor};
 ghost use Rattle.copying.specs.Pasted.{pasted};
-ghost use Rattle.station.specs.Data.{octetsIn, turnOf};
+ghost use Rattle.station.specs.Rules.Data.{octetsIn, turnOf};
 
 // Copies what we have of one area into the turn, from octet `at` on.
 fn copy_part(area: Area, part: Part, memory: &[u8], turn: &mut [u8], at: usize)

@@ -6,7 +6,7 @@ ghost use Rattle.boundary.specs.Crossing.{coreOf, figureIn};
 ghost use Rattle.answers.specs.Numbers.{figureNumbers};
 ghost use Rattle.lists.specs.Lists.{membersIn};
 ghost use Rattle.members.specs.Members.{noMembers};
-ghost use Rattle.station.specs.State.{never};
+ghost use Rattle.station.specs.Rules.State.{never};
 
 // A station that was never started: its state, and its list, which is empty.
 pub fn new(

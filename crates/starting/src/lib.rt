@@ -8,7 +8,7 @@ ghost use mathlib.Core.Path.{_≡_};
 ghost use mathlib.Core.Bool.{_&&_};
 ghost use lib.Dec.{ltb};
 ghost use Rattle.reading.specs.Reading.{isStation};
-ghost use Rattle.station.specs.Starting.{startOf, stopOf};
+ghost use Rattle.station.specs.Rules.Starting.{startOf, stopOf};
 
 // A call of start or stop: the state after it, and the answer.
 pub struct Switching {

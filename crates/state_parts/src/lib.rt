@@ -9,9 +9,9 @@ ghost use mathlib.Core.Path.{_≡_};
 ghost use mathlib.Core.Bool.{cond};
 ghost use lib.Dec.{eqb};
 ghost use Rattle.panel.specs.Panel.{taken};
-ghost use Rattle.station.specs.Data.{without as withoutOf};
-ghost use Rattle.station.specs.State.{isOff, isParticipating, nothing, holds as holdsOf};
-ghost use Rattle.station.specs.Token.{takes as takesOf};
+ghost use Rattle.station.specs.Rules.Data.{without as withoutOf};
+ghost use Rattle.station.specs.Rules.State.{isOff, isParticipating, nothing, holds as holdsOf};
+ghost use Rattle.station.specs.Rules.Token.{takes as takesOf};
 ghost use Rattle.writing.specs.Writing.{noAreas};
 
 pub fn is_off(phase: Phase) -> bool

@@ -28,9 +28,9 @@ ghost use mathlib.Core.Path.{_≡_};
 ghost use mathlib.Core.Bool.{cond};
 ghost use Rattle.panel.specs.Panel.{figureOf};
 ghost use Rattle.panel.specs.declared.Figure.the-variants.{Nothing};
-ghost use Rattle.station.specs.Showing.{figureShown};
-ghost use Rattle.station.specs.State.{isParticipating, fresh as freshOf, stopped as stoppedOf, never as neverOf, begun};
-ghost use Rattle.station.specs.Token.{restarted};
+ghost use Rattle.station.specs.Rules.Showing.{figureShown};
+ghost use Rattle.station.specs.Rules.State.{isParticipating, fresh as freshOf, stopped as stoppedOf, never as neverOf, begun};
+ghost use Rattle.station.specs.Rules.Token.{restarted};
 ghost use Rattle.station.specs.declared.Phase.the-variants.{Off};
 ghost use Rattle.writing.specs.Writing.{noAreas, noWatch};
 

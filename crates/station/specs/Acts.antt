@@ -16,11 +16,11 @@ use Rattle.members.specs.declared.Members.{Members}
 use Rattle.reading.specs.Reading.{fieldsOf}
 use Rattle.round_trip.specs.Sent.{blockFields}
 use Rattle.settling.specs.Ring.{next, viewAfterPass}
-use Rattle.station.specs.Asking.{Asking, askOf}
-use Rattle.station.specs.Hearing.{Hearing, relisted, hearOf}
-use Rattle.station.specs.State.{begun, fresh, nothing, stopped}
-use Rattle.station.specs.Ticking.{tickOf}
-use Rattle.station.specs.Token.{viewAfter}
+use Rattle.station.specs.Rules.Asking.{Asking, askOf}
+use Rattle.station.specs.Rules.Hearing.{Hearing, hearOf}
+use Rattle.station.specs.Rules.State.{begun, fresh, nothing, stopped, relisted}
+use Rattle.station.specs.Rules.Ticking.{tickOf}
+use Rattle.station.specs.Rules.Token.{viewAfter}
 use Rattle.station.specs.declared.Data.the-variants.{Kept, Written}
 use Rattle.station.specs.declared.Heard.the-variants as answers
 use Rattle.station.specs.declared.Phase.the-variants.{Startup, Listening}

@@ -13,9 +13,10 @@ pub use waits::watch_ends;
 ghost use mathlib.Core.Path.{_≡_};
 ghost use mathlib.Core.Bool.{cond, _&&_};
 ghost use Rattle.members.specs.Members.{numbersOf, isListed, strikes};
-ghost use Rattle.station.specs.Data.{without as withoutOf};
-ghost use Rattle.station.specs.Starting.{startedUp};
-ghost use Rattle.station.specs.Ticking.{counted, fallsDue, startupTick, joiningTick, watchEnded, participantTick, tickedBy, tickAnswer, tickOf};
+ghost use Rattle.station.specs.Rules.Data.{without as withoutOf};
+ghost use Rattle.station.specs.Rules.Starting.{startedUp};
+ghost use Rattle.station.specs.Rules.State.{counted};
+ghost use Rattle.station.specs.Rules.Ticking.{fallsDue, startupTick, joiningTick, watchEnded, participantTick, tickedBy, tickAnswer, tickOf};
 ghost use Rattle.station.specs.declared.Phase.the-variants as phases;
 
 // A call of tick: the state after it, and the answer.

@@ -5,7 +5,7 @@ use mathlib.Core.Path.{_≡_, refl}
 use lib.Dec.{eqb}
 use Rattle.frame.specs.Codes.{isToken}
 use Rattle.frame.specs.declared.Fields.{Fields}
-use Rattle.station.specs.Token.{takes, viewHeard, outcomeOf}
+use Rattle.station.specs.Rules.Token.{takes, viewHeard, outcomeOf}
 use Rattle.station.specs.declared.Data.{Data}
 use Rattle.station.specs.declared.Station.{Station}
 use Rattle.station.specs.declared.Token.{Token}

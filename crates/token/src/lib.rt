@@ -7,8 +7,8 @@ use station::Phase;
 use station::Token;
 ghost use mathlib.Core.Path.{_≡_};
 ghost use Rattle.token.specs.Parts.{outcomeBy};
-ghost use Rattle.station.specs.Hearing.{entersAnswer};
-ghost use Rattle.station.specs.Token.{viewAfter, viewHeard};
+ghost use Rattle.station.specs.Rules.Hearing.{entersAnswer};
+ghost use Rattle.station.specs.Rules.Token.{viewAfter, viewHeard};
 
 // "if the source is our view, the view becomes the destination. Otherwise the view becomes the smaller of view and destination."
 fn view_after(view: u8, source: u8, destination: u8) -> u8

@@ -5,12 +5,12 @@ use lib.Dec.{eqb, leb}
 use borrow.Author.Tests.{eqb-true, not-true}
 use Rattle.laws.specs.Tests.{first, second, neither-first, neither-second}
 use Rattle.members.specs.declared.Members.{Members}
-use Rattle.station.specs.Ticking.{tickOf, later}
-use Rattle.station.specs.Waits.{detectionWait, acceptanceTime}
+use Rattle.station.specs.Rules.Ticking.{tickOf, later, waitEnds}
+use Rattle.station.specs.Rules.Waits.{detectionWait, acceptanceTime}
 use Rattle.station.specs.declared.Ticked.the-variants.{Done, Off}
 use Rattle.boundary.specs.Crossing.{stationOf, coreOf}
 use Rattle.boundary.specs.declared.Core.{Core}
-use Rattle.waiting.specs.Waiting.{waitedThen, waitEnds, startupEnds, joiningEnds, isWaiting, waitedCore}
+use Rattle.waiting.specs.Waiting.{waitedJoining, startupEnds, joiningEnds, isWaiting, waitedCore}
 
 module _ (core : Core) (members : Members) where
   abbrev Counts : Type 0
@@ -25,7 +25,7 @@ module _ (core : Core) (members : Members) where
       let two : core .phase ≡ 2 = eqb-true (core .phase) 2 (first (eqb (core .phase) 2) (not (startupEnds core)) e) in
       let goes-on = not-true (startupEnds core) (second (eqb (core .phase) 2) (not (startupEnds core)) e) in
       let time = leb acceptanceTime (later acceptanceTime (core .elapsed) .0) in
-      let wait = waitEnds core (core .elapsed) (later acceptanceTime (core .elapsed)) in
+      let wait = waitEnds (core .own .number) (core .elapsed) (later acceptanceTime (core .elapsed)) in
       let time-runs : time ≡ false = neither-first time wait goes-on in
       let wait-runs : wait ≡ false = neither-second time wait goes-on in
       (rw (two, time-runs, wait-runs), rw (two, time-runs, wait-runs))
@@ -35,7 +35,7 @@ module _ (core : Core) (members : Members) where
       let three : core .phase ≡ 3 = eqb-true (core .phase) 3 (first (eqb (core .phase) 3) (not (joiningEnds core)) e) in
       let goes-on = not-true (joiningEnds core) (second (eqb (core .phase) 3) (not (joiningEnds core)) e) in
       let time = leb detectionWait (later detectionWait (core .elapsed) .0) in
-      let wait = waitEnds core (core .waited) (waitedThen core) in
+      let wait = waitEnds (core .own .number) (core .waited) (waitedJoining core) in
       let time-runs : time ≡ false = neither-first time wait goes-on in
       let wait-runs : wait ≡ false = neither-second time wait goes-on in
       (rw (three, time-runs, wait-runs), rw (three, time-runs, wait-runs))

@@ -2,10 +2,10 @@
 -- phase is a number, by which the proofs go: 1 listening, 2 ring startup, 3 joining.
 use Prim.Native.Nat.{ℕ}
 use mathlib.Core.Bool.{Bool, cond, not, _&&_, _||_}
-use lib.Dec.{eqb, leb, ltb}
-use Rattle.station.specs.Answers.{phaseNumber}
-use Rattle.station.specs.Ticking.{later}
-use Rattle.station.specs.Waits.{detectionWait, acceptanceTime, numberWait, listeningTime}
+use lib.Dec.{eqb, leb}
+use Rattle.station.specs.Rules.Answers.{phaseNumber}
+use Rattle.station.specs.Rules.Ticking.{later, waitEnds, waitedThen}
+use Rattle.station.specs.Rules.Waits.{detectionWait, acceptanceTime, listeningTime}
 use Rattle.station.specs.declared.Phase.the-variants.{Listening, Startup, Joining}
 use Rattle.units.specs.declared.Ticks.{Ticks}
 use Rattle.boundary.specs.Crossing.{isIn}
@@ -16,20 +16,16 @@ abbrev pub limitOf : ℕ → ℕ → ℕ
 limitOf phase number =
     cond (eqb phase (phaseNumber Listening)) (listeningTime number) (cond (eqb phase (phaseNumber Startup)) acceptanceTime detectionWait)
 
--- in joining, the wait for our number runs from the end of the third round
-abbrev pub waitedThen : Core → Ticks
-waitedThen core = cond (eqb (core .rounds) 3) (later (numberWait (core .own .number)) (core .waited)) (core .waited)
-
--- the wait for our number ends in a tick from one count to another
-abbrev pub waitEnds : Core → Ticks → Ticks → Bool
-waitEnds core before after = ltb (before .0) (numberWait (core .own .number)) && leb (numberWait (core .own .number)) (after .0)
+-- the wait for our number in joining, after the next tick
+abbrev pub waitedJoining : Core → Ticks
+waitedJoining core = waitedThen (core .own .number) (core .rounds) (core .waited)
 
 -- in ring startup and in joining, what ends with the next tick
 abbrev pub startupEnds : Core → Bool
-startupEnds core = leb acceptanceTime (later acceptanceTime (core .elapsed) .0) || waitEnds core (core .elapsed) (later acceptanceTime (core .elapsed))
+startupEnds core = leb acceptanceTime (later acceptanceTime (core .elapsed) .0) || waitEnds (core .own .number) (core .elapsed) (later acceptanceTime (core .elapsed))
 
 abbrev pub joiningEnds : Core → Bool
-joiningEnds core = leb detectionWait (later detectionWait (core .elapsed) .0) || waitEnds core (core .waited) (waitedThen core)
+joiningEnds core = leb detectionWait (later detectionWait (core .elapsed) .0) || waitEnds (core .own .number) (core .waited) (waitedJoining core)
 
 -- the next tick only counts
 abbrev pub isWaiting : Core → Bool
@@ -41,7 +37,7 @@ waitedCore core = record {
   phase = core .phase;
   own = core .own;
   elapsed = later (limitOf (core .phase) (core .own .number)) (core .elapsed);
-  waited = cond (isIn Joining core) (waitedThen core) (core .waited);
+  waited = cond (isIn Joining core) (waitedJoining core) (core .waited);
   rounds = core .rounds;
   sent = core .sent;
   view = core .view;

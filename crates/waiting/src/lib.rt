@@ -3,8 +3,9 @@ use boundary::Core;
 use units::Ticks;
 ghost use mathlib.Core.Path.{_≡_};
 ghost use mathlib.Core.Bool.{cond};
-ghost use lib.Dec.{eqb};
-ghost use Rattle.waiting.specs.Waiting.{limitOf, waitedThen, startupEnds, joiningEnds, isWaiting, waitedCore};
+ghost use Rattle.boundary.specs.Crossing.{isIn};
+ghost use Rattle.station.specs.declared.Phase.the-variants.{Joining};
+ghost use Rattle.waiting.specs.Waiting.{limitOf, waitedJoining, startupEnds, joiningEnds, isWaiting, waitedCore};
 
 // What the phase's ticks are counted up to.
 fn limit(phase: u8, number: u8) -> Ticks
@@ -55,7 +56,7 @@ pub fn is_waiting(core: Core) -> bool
 }
 
 fn waited_by(core: Core) -> Ticks
-    ensures { λ r. ⌜ r ≡ cond (eqb (core .phase) 3) (waitedThen core) (core .waited) ⌝ }
+    ensures { λ r. ⌜ r ≡ cond (isIn Joining core) (waitedJoining core) (core .waited) ⌝ }
 {
     let number = core.own.number;
     let waited = core.waited;

@@ -3,11 +3,10 @@ use units::Milliseconds;
 use units::Ticks;
 use units::Wait;
 ghost use mathlib.Core.Path.{_≡_};
-ghost use mathlib.Core.Bool.{cond, _&&_};
 ghost use Prim.Native.Nat.{_+_};
-ghost use lib.Dec.{eqb, leb, ltb};
-ghost use Rattle.station.specs.Ticking.{later as laterOf};
-ghost use Rattle.station.specs.Waits.{detectionWait, acceptanceTime, numberWait, triggerWait, listeningTime, watchTicks, longestWatch};
+ghost use lib.Dec.{leb};
+ghost use Rattle.station.specs.Rules.Ticking.{later as laterOf, waitEnds, waitedThen};
+ghost use Rattle.station.specs.Rules.Waits.{detectionWait, acceptanceTime, numberWait, triggerWait, listeningTime, watchTicks, longestWatch};
 
 pub fn detection_wait() -> Ticks
     ensures { λ r. ⌜ r .0 ≡ detectionWait ⌝ }
@@ -65,7 +64,7 @@ pub fn later(most: Ticks, ticks: Ticks) -> Ticks
 
 // Whether a tick that took a wait from one count to another ends the wait for our number.
 pub fn wait_ends(number: u8, before: Ticks, after: Ticks) -> bool
-    ensures { λ r. ⌜ r ≡ (ltb (before .0) (numberWait number) && leb (numberWait number) (after .0)) ⌝ }
+    ensures { λ r. ⌜ r ≡ waitEnds number before after ⌝ }
 {
     let wait = number_wait(number);
     (before.0 < wait.0) & (wait.0 <= after.0)
@@ -73,7 +72,7 @@ pub fn wait_ends(number: u8, before: Ticks, after: Ticks) -> bool
 
 // In joining, the wait for our number runs from the end of the third round.
 pub fn waited_then(number: u8, rounds: u8, waited: Ticks) -> Ticks
-    ensures { λ r. ⌜ r ≡ cond (eqb rounds 3) (laterOf (numberWait number) waited) waited ⌝ }
+    ensures { λ r. ⌜ r ≡ waitedThen number rounds waited ⌝ }
 {
     if rounds == 3 {
         later(number_wait(number), waited)

@@ -7,8 +7,8 @@ ghost use mathlib.Core.Path.{_≡_};
 ghost use Rattle.boundary.specs.Crossing.{coreOf, stationIn};
 ghost use Rattle.answers.specs.Numbers.{heardAnswer, askedAnswer};
 ghost use Rattle.lists.specs.Lists.{membersIn};
-ghost use Rattle.station.specs.Asking.{askOf};
-ghost use Rattle.station.specs.Hearing.{hearOf};
+ghost use Rattle.station.specs.Rules.Asking.{askOf};
+ghost use Rattle.station.specs.Rules.Hearing.{hearOf};
 
 pub fn hear(
     core: Core,

@@ -10,9 +10,9 @@ use Rattle.block.specs.Blocks.{startOf}
 use Rattle.frame.specs.declared.Fields.{Fields}
 use Rattle.laws.specs.Tests.{second}
 use Rattle.reading.specs.Reading.{dataSize}
-use Rattle.station.specs.Asking.{isPlaced, dueIn}
-use Rattle.station.specs.Asking.{nextBlock, dueFields, turnAfter, sentIn}
-use Rattle.station.specs.State.{holds}
+use Rattle.station.specs.Rules.Asking.{isPlaced, dueIn}
+use Rattle.station.specs.Rules.Asking.{nextBlock, dueFields, turnAfter, sentIn}
+use Rattle.station.specs.Rules.State.{holds}
 use Rattle.station.specs.declared.Asked.{Asked}
 use Rattle.station.specs.declared.Phase.{Phase}
 use Rattle.station.specs.declared.Station.{Station}

@@ -1,6 +1,6 @@
 -- `calls::ask` meets its contract.
 use mathlib.Core.Path.{ap}
-use Rattle.station.specs.Asking.{Asking}
+use Rattle.station.specs.Rules.Asking.{Asking}
 use mathlib.Core.Path.{sym, _∙_}
 use Rattle.laws.specs.Tests.{first, second}
 use Rattle.lists.specs.Lists.{membersIn}

@@ -2,7 +2,7 @@
 use mathlib.Core.Path.{refl}
 use mathlib.Core.Path.{sym, _∙_}
 use Rattle.laws.specs.Tests.{first, second}
-use Rattle.station.specs.Hearing.{lentRight}
+use Rattle.station.specs.Rules.Hearing.{lentRight}
 use borrow.Author.Needs.{needs}
 use Rattle.calls.proofs.hear_frame.Statement.{statement}
 use Rattle.calls.proofs.hear_frame.Tie as tie

@@ -1,6 +1,6 @@
 -- `counting::tick` meets its contract.
 use Rattle.answers.specs.Numbers.{tickedAnswer}
-use Rattle.station.specs.Ticking.{Ticking}
+use Rattle.station.specs.Rules.Ticking.{Ticking}
 use mathlib.Core.Path.{ap, sym, _∙_}
 use Rattle.lists.specs.Lists.{membersIn}
 use Rattle.boundary_participant.specs.Quick.{quiet-tick, quiet-core}

@@ -1,6 +1,6 @@
 -- `entering::enter` meets its contract.
 use mathlib.Core.Path.{ap, sym, _∙_}
-use Rattle.station.specs.Hearing.{enters}
+use Rattle.station.specs.Rules.Hearing.{enters}
 use Rattle.station.specs.declared.Phase.{Phase}
 use borrow.Author.Needs.{needs}
 use Rattle.entering.proofs.enter.Statement.{statement}

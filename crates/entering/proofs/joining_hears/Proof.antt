@@ -1,7 +1,7 @@
 -- `entering::joining_hears` meets its contract.
 use mathlib.Core.Path.{ap, sym, _∙_}
 use Rattle.frame.specs.declared.Code.{Code}
-use Rattle.station.specs.Hearing.{enters}
+use Rattle.station.specs.Rules.Hearing.{enters}
 use Rattle.station.specs.declared.Phase.the-variants.{Joining}
 use borrow.Author.Needs.{needs}
 use Rattle.entering.proofs.joining_hears.Statement.{statement}

@@ -11,8 +11,8 @@ use Rattle.area.specs.declared.Areas.{Areas}
 use Rattle.copying.specs.Pasted.{pasted}
 use Rattle.frame.specs.declared.Fields.{Fields}
 use Rattle.laws.specs.Tests.{first, second}
-use Rattle.station.specs.Data.{Gathered, sameAreas, isNext, turnWritten, storing}
-use Rattle.station.specs.State.{nothing}
+use Rattle.station.specs.Rules.Data.{Gathered, sameAreas, isNext, turnWritten, storing}
+use Rattle.station.specs.Rules.State.{nothing}
 use Rattle.station.specs.declared.Data.the-variants.{Kept, Written}
 use borrow.Author.Needs.{needs}
 use Rattle.gathering.proofs.gather.Statement.{statement}

@@ -13,7 +13,7 @@ use Rattle.area.specs.declared.Span.{Span}
 use Rattle.block.specs.Cut.{fits}
 use Rattle.copying.specs.Pasted.{pasted}
 use Rattle.laws.specs.Tests.{first, second}
-use Rattle.station.specs.Data.{turnWritten}
+use Rattle.station.specs.Rules.Data.{turnWritten}
 use borrow.Author.Needs.{needs}
 use Rattle.gathering.proofs.write_turn.Statement.{statement}
 use Rattle.gathering.proofs.write_turn.Tie as tie

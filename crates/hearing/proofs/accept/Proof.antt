@@ -2,7 +2,7 @@
 use mathlib.Core.Path.{_∙_}
 use Rattle.frame.specs.Codes.{isCyclic}
 use Rattle.laws.specs.Tests.{second}
-use Rattle.station.specs.State.{isParticipating}
+use Rattle.station.specs.Rules.State.{isParticipating}
 use borrow.Author.Needs.{needs}
 use Rattle.hearing.proofs.accept.Statement.{statement}
 use Rattle.hearing.proofs.accept.Tie as tie

@@ -3,7 +3,7 @@ use Rattle.boundary_participant.specs.Quick.{sentCore}
 use Rattle.answers.specs.Numbers.{frameAnswer, askedAnswer}
 use Rattle.boundary.specs.Crossing.{coreOf}
 use Rattle.writing.specs.Writing.{wholeLength, outputOf}
-use Rattle.station.specs.Asking.{nextFields, turnFor, Asking}
+use Rattle.station.specs.Rules.Asking.{nextFields, turnFor, Asking}
 use Rattle.block.specs.Blocks.{startOf}
 use Prim.Native.Nat.{ℕ, _+_}
 use lib.ListN.{drop}

@@ -14,9 +14,9 @@ use Rattle.lists.specs.Lists.{membersIn}
 use Rattle.members.specs.Members.{entryOf, isListed, cleared}
 use Rattle.members.specs.declared.Entry.{Entry}
 use Rattle.reading.specs.Reading.{dataOf}
-use Rattle.station.specs.Data.{gatheredFrom}
-use Rattle.station.specs.Hearing.{Hearing}
-use Rattle.station.specs.Token.{viewHeard}
+use Rattle.station.specs.Rules.Data.{gatheredFrom}
+use Rattle.station.specs.Rules.Hearing.{Hearing}
+use Rattle.station.specs.Rules.Token.{viewHeard}
 use Rattle.boundary.specs.Crossing.{coreOf}
 use Rattle.answers.specs.Numbers.{cyclicAnswer, heardAnswer}
 use Rattle.boundary_participant.specs.Quick.{restartedCore, accepted-parts, whole-body, accepted-heard}

@@ -9,7 +9,7 @@ use Rattle.feeding.specs.Fed.{fed-parts}
 use Rattle.input_line.specs.Gathering.{fresh}
 use Rattle.input_line.specs.declared.Line.{Line}
 use Rattle.replay_lines.specs.Replay.{Carried, held, replay, after}
-use Rattle.station.specs.State.{never}
+use Rattle.station.specs.Rules.State.{never}
 use Rattle.station.specs.declared.Station.{Station}
 use Rattle.replay_run.proofs.replay_all.Statement.{statement}
 use Rattle.replay_run.proofs.replay_all.Tie as tie

@@ -10,7 +10,7 @@ use Rattle.copying.specs.Laws.{front-read}
 use Rattle.copying.specs.Pasted.{pasted}
 use Rattle.replaying.specs.Cut.{hear-cut}
 use Rattle.replies.specs.Replies.{heardText}
-use Rattle.station.specs.Hearing.{Hearing, hearOf}
+use Rattle.station.specs.Rules.Hearing.{Hearing, hearOf}
 use borrow.Author.Needs.{needs}
 use Rattle.replaying.proofs.hear.Statement.{statement}
 use Rattle.replaying.proofs.hear.Tie as tie

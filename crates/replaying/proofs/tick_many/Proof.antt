@@ -3,7 +3,7 @@ use mathlib.Core.Path.{_≡_, refl, ap, ap₂, _∙_}
 use Prim.Native.Nat.{ℕ, suc, _-_}
 use native.Mathlib.Omega.{arith}
 use Rattle.replaying.specs.Replaying.{tickedOn}
-use Rattle.station.specs.Ticking.{Ticking}
+use Rattle.station.specs.Rules.Ticking.{Ticking}
 use Rattle.station.specs.declared.Station.{Station}
 use Rattle.station.specs.declared.Ticked.{Ticked}
 use Rattle.replaying.proofs.tick_many.Statement.{statement}

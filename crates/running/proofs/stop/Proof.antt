@@ -2,7 +2,7 @@
 use Rattle.answers.specs.Numbers.{switchedAnswer}
 use Rattle.boundary.specs.Crossing.{coreOf}
 use Rattle.station.specs.declared.Station.{Station}
-use Rattle.station.specs.Starting.{stopOf}
+use Rattle.station.specs.Rules.Starting.{stopOf}
 use mathlib.Core.Path.{ap, _∙_}
 use borrow.Author.Needs.{needs}
 use Rattle.running.proofs.stop.Statement.{statement}

@@ -2,7 +2,7 @@
 use Rattle.answers.specs.Numbers.{tickedAnswer}
 use Rattle.boundary.specs.Crossing.{coreOf}
 use Rattle.station.specs.declared.Station.{Station}
-use Rattle.station.specs.Ticking.{tickOf}
+use Rattle.station.specs.Rules.Ticking.{tickOf}
 use mathlib.Core.Path.{ap, _∙_}
 use borrow.Author.Needs.{needs}
 use Rattle.running.proofs.tick.Statement.{statement}

@@ -5,8 +5,8 @@ use mathlib.Core.List.{List, [], _∷_}
 use Prim.Native.Nat.{ℕ}
 use Rattle.members.specs.Members.{isEmpty, numbersOf, smallest}
 use Rattle.members.specs.declared.Members.{Members}
-use Rattle.station.specs.Starting.{startedUp}
-use Rattle.station.specs.State.{fresh, begun}
+use Rattle.station.specs.Rules.Starting.{startedUp}
+use Rattle.station.specs.Rules.State.{fresh, begun}
 use Rattle.station.specs.declared.Phase.the-variants.{Listening}
 use Rattle.station.specs.declared.Settings.{Settings}
 use borrow.Author.Needs.{needs}

@@ -1,6 +1,6 @@
 -- `ticking::tick_on` meets its contract.
 use mathlib.Core.Path.{ap, sym, _∙_}
-use Rattle.station.specs.Ticking.{tickedBy}
+use Rattle.station.specs.Rules.Ticking.{tickedBy}
 use Rattle.station.specs.declared.Phase.{Phase}
 use borrow.Author.Needs.{needs}
 use Rattle.ticking.proofs.tick_on.Statement.{statement}

@@ -2,7 +2,7 @@
 use Rattle.answers.specs.Numbers.{askedAnswer}
 use Rattle.boundary.specs.Crossing.{coreOf}
 use Rattle.station.specs.declared.Station.{Station}
-use Rattle.station.specs.Asking.{askOf}
+use Rattle.station.specs.Rules.Asking.{askOf}
 use mathlib.Core.Path.{ap}
 use mathlib.Core.Path.{_∙_}
 use borrow.Author.Needs.{needs}

@@ -2,7 +2,7 @@
 use Rattle.answers.specs.Numbers.{heardAnswer}
 use Rattle.boundary.specs.Crossing.{coreOf}
 use Rattle.station.specs.declared.Station.{Station}
-use Rattle.station.specs.Hearing.{hearOf}
+use Rattle.station.specs.Rules.Hearing.{hearOf}
 use mathlib.Core.Path.{ap, _∙_}
 use borrow.Author.Needs.{needs}
 use Rattle.whole.proofs.hear.Statement.{statement}

@@ -10,7 +10,7 @@ use Rattle.area.specs.declared.Area.{Area}
 use Rattle.area.specs.declared.Part.{Part}
 use Rattle.area.specs.declared.Span.{Span}
 use Rattle.copying.specs.Pasted.{pasted}
-use Rattle.station.specs.Data.{octetsIn}
+use Rattle.station.specs.Rules.Data.{octetsIn}
 use borrow.Author.Needs.{needs}
 use Rattle.sending.proofs.turn.copy_part.Statement.{statement}
 use Rattle.sending.proofs.turn.copy_part.Tie as tie

@@ -14,7 +14,7 @@ use Rattle.block.specs.Cut.{fits}
 use Rattle.copying.specs.Laws.{paste-append}
 use Rattle.copying.specs.Pasted.{pasted}
 use Rattle.laws.specs.Tests.{first, second}
-use Rattle.station.specs.Data.{octetsIn, turnOf}
+use Rattle.station.specs.Rules.Data.{octetsIn, turnOf}
 use lib.Seq.{length-take-le}
 use borrow.Author.Needs.{needs}
 use Rattle.sending.proofs.turn.copy_turn.Statement.{statement}

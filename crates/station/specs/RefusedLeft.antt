@@ -1,0 +1,97 @@
+-- Demand 1: "a numbered refusal changes no buffer, and no station state except in the one case that the table names". Assumes nothing.
+use mathlib.Core.Path.{_≡_, refl, ap₂, sym, _∙_}
+use mathlib.Core.Bool.{Bool, true, false, cond, _&&_}
+use mathlib.Core.List.{List, [], _∷_}
+use Prim.Native.Nat.{ℕ}
+use native.Mathlib.Omega.{arith}
+use Rattle.frame.specs.Codes.{isCyclic}
+use Rattle.frame.specs.declared.Fields.{Fields}
+use Rattle.frame.specs.declared.Refusal.{Refusal}
+use Rattle.frame.specs.declared.Refusal.the-variants as refusals
+use Rattle.station.specs.Outcomes.AskCases as on-asking
+use Rattle.station.specs.Rules.Calls.{Call, start, stop, tick, hear, ask, lent, lentAfter, after, refusedBy, taken, verdict, switchedVerdict, heardVerdict, askedVerdict}
+use Rattle.station.specs.Outcomes.HearCases.{EnterCases, off, begins, joins, passes, reads, lists, ignores, HearCases, refuses, turnsOff, gathers, heeds, hear-cases}
+use Rattle.station.specs.Rules.Hearing.{Hearing, accepted}
+use Rattle.station.specs.Rules.Starting.{Switching}
+use Rattle.station.specs.Rules.State.{isOff, isParticipating, stopped}
+use Rattle.station.specs.Outcomes.SwitchCases as on-switching
+use Rattle.station.specs.declared.Data.the-variants.{Dropped}
+use Rattle.station.specs.declared.Heard.{Heard}
+use Rattle.station.specs.declared.Heard.the-variants as heard
+use Rattle.station.specs.declared.Station.{Station}
+use Rattle.station.specs.declared.Token.the-variants as tokens
+use Rattle.station.specs.Rules.Asking.{Asking}
+
+-- nothing is altered, or number 6 came before we participate and left just what stop leaves
+pub data Spared (before after : Station) (refusal : Refusal) : Type 0 where
+  same : after ≡ before → Spared before after refusal
+  turnedOff : refusal ≡ refusals.Taken → isParticipating (before .phase) ≡ false → after ≡ stopped before → Spared before after refusal
+
+-- what a refused call leaves
+pub record Left (station : Station) (call : Call) (refusal : Refusal) : Type 0 where
+  pub state : Spared station (after station call) refusal
+  pub buffers : lentAfter station call ≡ lent call
+
+-- a verdict is one thing only
+not-taken : {refusal : Refusal} → taken ≡ refusedBy refusal → ⊥
+not-taken e = let z : _≡_ {A = ℕ} 0 1 = cc in omega arith
+
+-- a start or a stop: what is left where the answer is a refusal
+switch-keeps : {station left : Station} {Reason : Type 0} {result : Switching} (refusal : Refusal) → on-switching.SwitchCases station left Reason result →
+    switchedVerdict (result .answer) ≡ refusedBy refusal → result .station ≡ station
+switch-keeps refusal (on-switching.refuses other) e = refl
+switch-keeps refusal (on-switching.does reason) e = absurd (not-taken e)
+
+-- a frame that is accepted is not refused
+pub accepted-taken : (station : Station) (frame : Fields) (octets memory assembly : List ℕ)
+    → heardVerdict (accepted station frame octets memory assembly .answer) ≡ taken
+accepted-taken station frame octets memory assembly =
+    either (isParticipating (station .phase) && isCyclic (frame .code)) _ _ refl (entered (isOff (station .phase)) (isCyclic (frame .code)))
+  where
+    either : (test : Bool) (one other : Hearing) → heardVerdict (one .answer) ≡ taken → heardVerdict (other .answer) ≡ taken
+        → heardVerdict (cond test one other .answer) ≡ taken
+    either true one other p q = p
+    either false one other p q = q
+
+    entered : (off cyclic : Bool) → heardVerdict (cond off heard.Off (cond cyclic (heard.Cyclic (tokens.None Dropped)) heard.Done)) ≡ taken
+    entered true cyclic = refl
+    entered false true = refl
+    entered false false = refl
+
+-- hearing: what is left where the answer is a refusal
+entered-accepted : {station left : Station} {frame : Fields} {answer : Heard} → EnterCases station frame left answer → heardVerdict answer ≡ taken
+entered-accepted (off e) = refl
+entered-accepted (begins e c) = refl
+entered-accepted (joins e c) = refl
+entered-accepted (passes e c) = refl
+entered-accepted (reads e c) = refl
+entered-accepted (lists e c) = refl
+entered-accepted (ignores e) = refl
+
+hear-keeps : {station : Station} {octets memory assembly : List ℕ} {result : Hearing} (refusal : Refusal) → HearCases station octets memory assembly result →
+    heardVerdict (result .answer) ≡ refusedBy refusal →
+    Spared station (result .station) refusal × (result .memory ≡ memory) × (result .assembly ≡ assembly)
+hear-keeps refusal (refuses other) e = (same refl, refl, refl)
+hear-keeps refusal (turnsOff out) e = (turnedOff (cc) out refl, refl, refl)
+hear-keeps refusal (gathers frame facts parts) e = absurd (not-taken e)
+hear-keeps refusal (heeds frame facts entered) e = absurd (not-taken (sym (entered-accepted entered) ∙ e))
+
+-- asking: what is left where the answer is a refusal
+ask-keeps : {station : Station} {memory turn output : List ℕ} {result : Asking} (refusal : Refusal) → on-asking.AskCases station memory turn output result →
+    askedVerdict (result .answer) ≡ refusedBy refusal → (result .station ≡ station) × (result .turn ≡ turn) × (result .output ≡ output)
+ask-keeps refusal (on-asking.refuses other) e = (refl, refl, refl)
+ask-keeps refusal (on-asking.sends lent is sent) e = absurd (not-taken e)
+
+-- Every call that is refused leaves the state and every lent buffer as they were, but that number 6 before we participate leaves just what
+-- stop leaves.
+pub refused-left : (station : Station) (call : Call) (refusal : Refusal) → verdict station call ≡ refusedBy refusal → Left station call refusal
+refused-left station (start settings) refusal e =
+    record { state = same (switch-keeps refusal (on-switching.start-cases station settings) e); buffers = refl }
+refused-left station stop refusal e = record { state = same (switch-keeps refusal (on-switching.stop-cases station) e); buffers = refl }
+refused-left station tick refusal e = absurd (not-taken e)
+refused-left station (hear octets memory assembly) refusal e =
+    let kept = hear-keeps refusal (hear-cases station octets memory assembly) e in
+    record { state = kept .0; buffers = ap₂ (λ (m a : List ℕ). octets ∷ m ∷ a ∷ []) (kept .1) (kept .2) }
+refused-left station (ask memory turn output) refusal e =
+    let kept = ask-keeps refusal (on-asking.ask-cases station memory turn output) e in
+    record { state = same (kept .0); buffers = ap₂ (λ (t o : List ℕ). memory ∷ t ∷ o ∷ []) (kept .1) (kept .2) }

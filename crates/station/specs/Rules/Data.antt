@@ -1,0 +1,77 @@
+-- Paper 01, "Data": putting divided cyclic data together, and the copy that a turn is sent from.
+use Prim.Native.Nat.{ℕ, _+_, _*_}
+use mathlib.Core.Bool.{Bool, cond, _&&_, _||_}
+use mathlib.Core.List.{List, _++_}
+use lib.Dec.{eqb}
+use lib.ListN.{take, drop}
+use Rattle.area.specs.Areas.{spanOf}
+use Rattle.area.specs.declared.Area.the-variants.{One, Two}
+use Rattle.area.specs.declared.Areas.{Areas}
+use Rattle.area.specs.declared.Span.{Span}
+use Rattle.block.specs.Blocks.{startOf}
+use Rattle.copying.specs.Pasted.{pasted}
+use Rattle.frame.specs.declared.Fields.{Fields}
+use Rattle.members.specs.Members.{entryOf}
+use Rattle.station.specs.Rules.State.{nothing}
+use Rattle.station.specs.declared.Data.{Data}
+use Rattle.station.specs.declared.Data.the-variants.{Kept, Written, Dropped}
+use Rattle.station.specs.declared.Gathering.{Gathering}
+use Rattle.station.specs.declared.Station.{Station}
+
+-- the octets of a span
+abbrev pub octetsIn : Span → List ℕ → List ℕ
+octetsIn span memory = take (span .length) (drop (span .start) memory)
+
+-- "A turn's data are the station's area 1 then its area 2"
+abbrev pub turnOf : Areas → List ℕ → List ℕ
+turnOf areas memory = octetsIn (spanOf One (areas .one)) memory ++ octetsIn (spanOf Two (areas .two)) memory
+
+-- the common memory with a whole turn written to these areas
+abbrev pub turnWritten : Areas → List ℕ → List ℕ → List ℕ
+turnWritten areas turn memory =
+    pasted
+    (pasted memory (spanOf One (areas .one) .start) (take (2 * areas .one .size) turn))
+    (spanOf Two (areas .two) .start)
+    (take (2 * areas .two .size) (drop (2 * areas .one .size) turn))
+
+abbrev pub sameAreas : Areas → Areas → Bool
+sameAreas a b =
+    (eqb (a .one .address) (b .one .address) && eqb (a .one .size) (b .one .size))
+    && (eqb (a .two .address) (b .two .address) && eqb (a .two .size) (b .two .size))
+
+-- what gathering one block leaves
+pub record Gathered : Type 0 where
+  pub gathering : Gathering
+  pub assembly : List ℕ
+  pub memory : List ℕ
+  pub outcome : Data
+
+-- "Block 1 starts afresh. A block that isn't the next of the same source drops what was gathered, and itself unless it is block 1."
+abbrev pub isNext : Gathering → Fields → Bool
+isNext gathering frame =
+    eqb (frame .block) 1 || (eqb (gathering .source) (frame .source) && eqb (gathering .blocks + 1) (frame .block))
+
+abbrev pub dropped : List ℕ → List ℕ → Gathered
+dropped assembly memory = record { gathering = nothing; assembly = assembly; memory = memory; outcome = Dropped }
+
+-- a block with its octets, stored at its place: "On the last block everything is written to the source's listed areas; before that, nothing."
+abbrev pub storing : Areas → Fields → List ℕ → List ℕ → Gathered
+storing listed frame assembly memory =
+    cond (eqb (frame .block) (frame .blocks))
+    (record { gathering = nothing; assembly = assembly; memory = turnWritten listed assembly memory; outcome = Written })
+    (record { gathering = record { source = frame .source; blocks = frame .block }; assembly = assembly; memory = memory; outcome = Kept })
+
+-- "Data are dropped with what was gathered, token still read, if the frame's areas differ from the listed ones."
+abbrev pub gatheredFrom : Gathering → Areas → Fields → List ℕ → List ℕ → List ℕ → Gathered
+gatheredFrom gathering listed frame octets assembly memory =
+    cond (sameAreas (frame .areas) listed && isNext gathering frame)
+    (storing listed frame (pasted assembly (startOf (frame .block)) octets) memory)
+    (dropped assembly memory)
+
+-- the listed ones are those that the source has in our list
+abbrev pub gathered : Station → Fields → List ℕ → List ℕ → List ℕ → Gathered
+gathered station frame = gatheredFrom (station .gathering) (entryOf (station .members) (frame .source) .areas) frame
+
+-- what was gathered from a station that is listed again or struck is dropped
+abbrev pub without : ℕ → Gathering → Gathering
+without source gathering = cond (eqb source (gathering .source)) nothing gathering
