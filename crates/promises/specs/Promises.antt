@@ -1,7 +1,7 @@
 -- What is promised: each printed statement written out, in the order of docs/PROMISES.md, and proved by the theorem that is named beside it.
 -- The definitions that the statements are made of are the rules themselves, which the contracts of the calls cite. Words in quotes are the
 -- request's and paper 01's.
-use mathlib.Core.Path.{_≡_, refl, sym, _∙_}
+use mathlib.Core.Path.{_≡_, refl}
 use mathlib.Core.Bool.{true, false, cond, not, _&&_, _||_, false≢true}
 use mathlib.Core.Logic.{_⊎_, inl, inr}
 use mathlib.Core.List.{List, [], _∷_, _++_}
@@ -29,7 +29,7 @@ use Rattle.delivered.specs.Rings.{Boxes, stationsIn, Runs, delivered-settles}
 use Rattle.feeding.specs.Lines as lines
 use Rattle.frame.specs.Codes.{isToken, isCyclic}
 use Rattle.frame.specs.Octets.{octetAt}
-use Rattle.frame.specs.Refusals.{numberOf, order}
+use Rattle.frame.specs.Refusals.{order}
 use Rattle.frame.specs.declared.Fields.{Fields}
 use Rattle.frame.specs.declared.Refusal.{Refusal}
 use Rattle.frame.specs.declared.Refusal.the-variants.{Taken}
@@ -66,7 +66,7 @@ use Rattle.station.specs.Rules.Answers.{dataOf}
 use Rattle.station.specs.States.Disjoint.{Apart}
 use Rattle.station.specs.Frames.FrameAccepted.{frame-asked, frame-accepted}
 use Rattle.station.specs.Rules.Asking.{askOf, dueFields}
-use Rattle.station.specs.Rules.Calls.{Call, hear, after, lent, lentAfter, Verdict, refusedBy, taken, verdict}
+use Rattle.station.specs.Rules.Calls.{Call, hear, after, lent, lentAfter, refusedBy, taken, verdict}
 use Rattle.station.specs.Memory.Gathers.{Parts}
 use Rattle.station.specs.Rules.Hearing.{hearOf, knows, lentRight}
 use Rattle.station.specs.Panel.History.{stepOf, stateAfter, history, participates, takings, lastGap}

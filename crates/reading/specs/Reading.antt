@@ -46,7 +46,7 @@ coded s = isKnown (codeOf (wordAt s TCD))
 abbrev pub codeIn : List ℕ → Code
 codeIn s = codeFrom (codeOf (wordAt s TCD))
 
--- the fields as they stand in the octets
+-- the fields as they stand in the octets. "On reading, fields not named here are not looked at, the frame type mark aside."
 unfoldable pub fieldsOf : Code → List ℕ → Fields
 fieldsOf code s = record {
   length = longAt s TFL;

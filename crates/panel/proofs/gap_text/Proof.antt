@@ -1,6 +1,5 @@
 -- `panel::gap_text` meets its contract.
 use mathlib.Core.Path.{_∙_, sym}
-use native.Mathlib.Omega.{arith}
 use borrow.Author.Tests.{ltb-false}
 use borrow.Author.Needs.{needs}
 use Rattle.panel.proofs.gap_text.Statement.{statement}

@@ -26,7 +26,8 @@ octetsIn span memory = take (span .length) (drop (span .start) memory)
 abbrev pub turnOf : Areas → List ℕ → List ℕ
 turnOf areas memory = octetsIn (spanOf One (areas .one)) memory ++ octetsIn (spanOf Two (areas .two)) memory
 
--- the common memory with a whole turn written to these areas
+-- the common memory with a whole turn written to these areas. "Our own areas are never written by a frame": no listed area overlaps them
+-- (`ours-kept`).
 abbrev pub turnWritten : Areas → List ℕ → List ℕ → List ℕ
 turnWritten areas turn memory =
     pasted
@@ -39,7 +40,7 @@ sameAreas a b =
     (eqb (a .one .address) (b .one .address) && eqb (a .one .size) (b .one .size))
     && (eqb (a .two .address) (b .two .address) && eqb (a .two .size) (b .two .size))
 
--- what gathering one block leaves
+-- what gathering one block leaves: "One turn is put together at a time."
 pub record Gathered : Type 0 where
   pub gathering : Gathering
   pub assembly : List ℕ
@@ -72,6 +73,6 @@ gatheredFrom gathering listed frame octets assembly memory =
 abbrev pub gathered : Station → Fields → List ℕ → List ℕ → List ℕ → Gathered
 gathered station frame = gatheredFrom (station .gathering) (entryOf (station .members) (frame .source) .areas) frame
 
--- what was gathered from a station that is listed again or struck is dropped
+-- "Listing a station again .. drops what was gathered from it; striking it drops that too."
 abbrev pub without : ℕ → Gathering → Gathering
 without source gathering = cond (eqb source (gathering .source)) nothing gathering

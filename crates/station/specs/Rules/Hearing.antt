@@ -13,7 +13,6 @@ use Rattle.frame.specs.declared.Refusal.{Refusal}
 use Rattle.frame.specs.declared.Refusal.the-variants as refusals
 use Rattle.members.specs.Listing.{listing}
 use Rattle.members.specs.Members.{isListed, cleared}
-use Rattle.members.specs.declared.Members.{Members}
 use Rattle.reading.specs.Reading.{readHeaderOf, readBodyOf, dataOf}
 use Rattle.reading.specs.declared.Read.{Read}
 use Rattle.reading.specs.declared.Read.the-variants.{Frame, Refused}
@@ -22,7 +21,6 @@ use Rattle.station.specs.Rules.Starting.{oursDue, joinedBy}
 use Rattle.station.specs.Rules.State.{isOff, isParticipating, fresh, stopped, relisted}
 use Rattle.station.specs.Rules.Token.{viewHeard, restarted, outcomeOf}
 use Rattle.station.specs.declared.Data.the-variants.{Dropped}
-use Rattle.station.specs.declared.Gathering.{Gathering}
 use Rattle.station.specs.declared.Heard.{Heard}
 use Rattle.station.specs.declared.Heard.the-variants as answers
 use Rattle.station.specs.declared.Phase.{Phase}
@@ -46,7 +44,7 @@ requested station frame =
 
 -- what a frame of each code does in each phase before we participate: "A token frame heard in listening .. or in ring startup goes to joining
 -- with an empty list, and is the first frame read there." "A trigger .. heard in listening, begins ring startup." In ring startup "requests
--- heard are listed". "A frame that no rule here names for the present state changes nothing."
+-- heard are listed". "A participant that hears a request lists that station." "A frame that no rule here names for the present state changes nothing."
 abbrev pub enters : Phase → Code → Station → Fields → Station
 enters Off code station frame = station
 enters Listening Token station frame = joinedBy (fresh Joining (station .own)) frame
@@ -67,7 +65,7 @@ enters Participating Request station frame = requested station frame
 enters Participating Trigger station frame = station
 
 -- the answer to a frame that a participant does not take as a cyclic one: "so is a frame of any of the four codes" at an off station; for a
--- cyclic frame none of the token, "before that the data are dropped"
+-- cyclic frame none of the token; and "any other request or trigger that isn't refused, is answered 'done'"
 abbrev pub entersAnswer : Phase → Code → Heard
 entersAnswer phase code = cond (isOff phase) answers.Off (cond (isCyclic code) (answers.Cyclic (tokens.None Dropped)) answers.Done)
 
@@ -81,7 +79,7 @@ participantHeard station frame after = record {
   assembly = after .assembly;
 }
 
--- a frame that no refusal met
+-- a frame that no refusal met. "Only a participant gathers; before that the data are dropped."
 abbrev pub accepted : Station → Fields → List ℕ → List ℕ → List ℕ → Hearing
 accepted station frame octets memory assembly =
     cond (isParticipating (station .phase) && isCyclic (frame .code))

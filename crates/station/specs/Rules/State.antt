@@ -59,11 +59,11 @@ stopped station = fresh Off (record { number = station .own .number; areas = noA
 abbrev pub never : Station
 never = fresh Off (record { number = 0; areas = noAreas; watch = noWatch })
 
--- "It holds when the view is its own number."
+-- "Each participant has a view: the number it takes to be the holder. It holds when the view is its own number." (The paper's word: view.)
 abbrev pub holds : Station → Bool
 holds station = eqb (station .view) (station .own .number)
 
--- we begin to participate: the watch starts afresh, and beginning "with our own number in view" is a taking
+-- we begin to participate. The watch: "It starts afresh when we begin to participate." To begin "with our own number in view" is a taking.
 abbrev pub begun : Settings → Members → ℕ → Station
 begun own members view = record {
   phase = Participating;

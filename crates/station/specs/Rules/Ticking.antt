@@ -55,7 +55,8 @@ joiningTick station elapsed =
     (joiningWait station elapsed (waitedThen (station .own .number) (station .rounds) (station .waited)))
 
 -- "When the watch ends, the station in view gets a miss if it is listed, the view becomes next after it, and the watch restarts. .. A holder
--- whose own watch ends gives up the token likewise, without a miss." (Our own number is never listed.)
+-- whose own watch ends gives up the token likewise, without a miss. One ending of a watch, at all stations alike, is a silence." (Our own
+-- number is never listed.)
 abbrev pub watchEnded : Station → Station
 watchEnded station =
     restarted station (missed (station .members) (station .view))

@@ -11,7 +11,6 @@ use Rattle.panel.specs.declared.Panel.{Panel}
 use Rattle.station.specs.Rules.State.{moved}
 use Rattle.station.specs.declared.Data.{Data}
 use Rattle.station.specs.declared.Gathering.{Gathering}
-use Rattle.station.specs.declared.Phase.the-variants.{Participating}
 use Rattle.station.specs.declared.Station.{Station}
 use Rattle.station.specs.declared.Token.{Token}
 use Rattle.station.specs.declared.Token.the-variants.{None, PassedOn, OursNow, RivalPassedOver, RivalWon}

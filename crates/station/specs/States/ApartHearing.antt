@@ -23,7 +23,7 @@ use Rattle.station.specs.States.Reachable.{Sound}
 use Rattle.station.specs.Rules.Starting.{requestFallen, oursDue, joinedBy}
 use Rattle.station.specs.Rules.State.{fresh}
 use Rattle.station.specs.Rules.Waits.{numberWait}
-use Rattle.station.specs.declared.Phase.the-variants.{Off, Startup, Joining, Listening}
+use Rattle.station.specs.declared.Phase.the-variants.{Off, Startup, Joining}
 use Rattle.station.specs.declared.Station.{Station}
 use Rattle.station.specs.Rules.Asking.{Asking}
 
