@@ -6,12 +6,12 @@ use lib.Dec.{ltb, eqb}
 use lib.ListN.{length, set, take}
 use Rattle.reading.specs.Reading.{readOf}
 use Rattle.text.specs.Lines.{lineFeed}
-use Rattle.decoding.specs.Hexadecimal.{digitOf}
+use Rattle.text_hexadecimal.specs.Hexadecimal.{digitOf}
 use Rattle.decoding.specs.declared.Answer.{Answer}
 use Rattle.decoding.specs.declared.Answer.the-variants as answers
 use Rattle.decoding.specs.declared.Gathered.{Gathered}
-use Rattle.decoding.specs.declared.Hexadecimal.{Hexadecimal}
-use Rattle.decoding.specs.declared.Hexadecimal.the-variants.{Digit, Other}
+use Rattle.text_hexadecimal.specs.declared.Hexadecimal.{Hexadecimal}
+use Rattle.text_hexadecimal.specs.declared.Hexadecimal.the-variants.{Digit, Other}
 use Rattle.decoding.specs.declared.Pending.{Pending}
 use Rattle.decoding.specs.declared.Pending.the-variants.{Nothing, Half, Bad}
 use Rattle.decoding.specs.declared.Scanned.{Scanned}

@@ -3,7 +3,7 @@ use Prim.Native.Nat.{ℕ}
 use mathlib.Core.List.{List, [], _∷_}
 use Rattle.reading.specs.Reading.{readOf}
 use Rattle.decoding.specs.Gathering.{pushed, bufferAfter}
-use Rattle.decoding.specs.Hexadecimal.{Spelled, octets, neither, spelled}
+use Rattle.text_hexadecimal.specs.Hexadecimal.{Spelled, octets, neither, spelled}
 use Rattle.decoding.specs.declared.Answer.{Answer}
 use Rattle.decoding.specs.declared.Answer.the-variants.{Heard, Bad}
 use Rattle.decoding.specs.declared.Gathered.{Gathered}

@@ -5,7 +5,7 @@ use mathlib.Core.List.{List, [], _∷_}
 use lib.Dec.{eqb, leb, ltb}
 use lib.ListN.{set}
 use Rattle.text.specs.Lines.{lineFeed}
-use Rattle.words.specs.Octets.{isHexadecimal}
+use Rattle.text_hexadecimal.specs.Octets.{isHexadecimal}
 use Rattle.input_line.specs.declared.Line.{Line}
 use Rattle.input_line.specs.declared.Scanned.{Scanned}
 

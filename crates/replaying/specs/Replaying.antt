@@ -2,7 +2,7 @@
 use Prim.Native.Nat.{ℕ, zero, suc, _-_, _*_}
 use mathlib.Core.List.{List}
 use lib.ListN.{length, take, drop}
-use Rattle.words.specs.Octets.{octetsOf}
+use Rattle.text_hexadecimal.specs.Octets.{octetsOf}
 use Rattle.commands.specs.declared.Command.{Command}
 use Rattle.commands.specs.declared.Command.the-variants.{Start, Stop, Tick, Hear, Ask, Panel, Poke, Peek, State, Bad}
 use Rattle.copying.specs.Pasted.{pasted}

@@ -10,7 +10,7 @@ use station::Station;
 use ticking::Ticking;
 ghost use mathlib.Core.Path.{_≡_};
 ghost use lib.ListN.{length, take, drop};
-ghost use Rattle.words.specs.Octets.{octetsOf};
+ghost use Rattle.text_hexadecimal.specs.Octets.{octetsOf};
 ghost use Rattle.copying.specs.Pasted.{pasted};
 ghost use Rattle.replaying.specs.Replaying.{ticksOf, pokedBy, keeping, performed};
 ghost use Rattle.replies.specs.Replies.{doneText, switchedText, tickedText, heardText, askedText, octetsText};
@@ -76,7 +76,7 @@ fn hear(
     ensures { λ _. ⌜ now (answer .exit) ≡ pasted (now (answer .entry)) 0 (heardText (hearOf station (octetsOf (now (digits .entry))) (now (memory .entry)) (now (assembly .entry)) .answer)) ⌝ }
 {
     let mut octets = [0u8; 1121];
-    let count = words::unspell(digits, &mut octets);
+    let count = text_hexadecimal::unspell(digits, &mut octets);
     let hearing = hearing::hear(station, &octets[0..count], memory, assembly);
     let station = hearing.station;
     let heard = hearing.answer;
@@ -109,7 +109,7 @@ fn write(at: usize, digits: &[u8], memory: &mut [u8])
     ensures { λ _. ⌜ now (memory .exit) ≡ pokedBy (now (memory .entry)) at (octetsOf (now (digits .entry))) ⌝ }
 {
     if at < memory.len() {
-        words::unspell(digits, &mut memory[at..]);
+        text_hexadecimal::unspell(digits, &mut memory[at..]);
     }
 }
 
