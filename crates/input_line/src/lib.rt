@@ -45,7 +45,7 @@ fn store(count: usize, octet: u8, buffer: &mut [u8])
 }
 
 // One more octet of the line.
-pub fn push(line: Line, octet: u8, buffer: &mut [u8]) -> Line
+fn push(line: Line, octet: u8, buffer: &mut [u8]) -> Line
     ensures { λ r. ⌜ r ≡ pushed line octet ⌝ }
     ensures { λ _. ⌜ now (buffer .exit) ≡ set (now (buffer .entry)) (line .count) octet ⌝ }
 {

@@ -16,7 +16,7 @@ use Rattle.input_line.specs.Gathering.{longest, fresh, pushed, pushedAll, buffe
 use Rattle.input_line.specs.declared.Line.{Line}
 use Rattle.replaying.specs.Lines.{line-performed}
 use Rattle.replaying.specs.Replaying.{Kept, Performed, performed}
-use Rattle.replies.specs.Replies.{badText}
+use Rattle.reply_words.specs.Answers.{badText}
 use Rattle.text_hexadecimal.specs.Octets.{isHexadecimal}
 use Rattle.replay_lines.specs.Replay.{Carried, carried, lineDone, replay, after, start, answerToRest, outputOf}
 use Rattle.replay_lines.specs.Scanned.{pushed-both}

@@ -10,7 +10,7 @@ use Rattle.feeding.specs.Feeding.{Program, fedAll, answeredAll}
 use Rattle.input_line.specs.Gathering.{fresh, pushed}
 use Rattle.input_line.specs.declared.Line.{Line}
 use Rattle.replaying.specs.Replaying.{Kept, keeping, Performed, performed}
-use Rattle.replies.specs.Replies.{badText}
+use Rattle.reply_words.specs.Answers.{badText}
 use Rattle.station.specs.State.{never}
 use Rattle.station.specs.declared.Station.{Station}
 

@@ -104,7 +104,7 @@ pub fn put_rest(line: Line, text: &mut [u8; 40]) -> usize
     ensures { λ _. ⌜ now (text .exit) ≡ pasted (now (text .entry)) 0 (answerToRest line) ⌝ }
 {
     if 0 < line.count {
-        return replies::put_bad(text);
+        return reply_words::put_bad(text);
     }
     0
 }

@@ -1,9 +1,6 @@
 // What a command does to a station and its buffers, and the line that is answered, which is written in front of a lent answer.
-mod parts;
-
 use commands::Command;
 use commands::Peek;
-use parts::digits_of;
 use reply_parts::part_of;
 use starting::Switching;
 use station::Station;
@@ -12,8 +9,10 @@ ghost use mathlib.Core.Path.{_≡_};
 ghost use lib.ListN.{length, take, drop};
 ghost use Rattle.text_hexadecimal.specs.Octets.{octetsOf};
 ghost use Rattle.copying.specs.Pasted.{pasted};
-ghost use Rattle.replaying.specs.Replaying.{ticksOf, pokedBy, keeping, performed};
-ghost use Rattle.replies.specs.Replies.{doneText, switchedText, tickedText, heardText, askedText, octetsText};
+ghost use Rattle.replaying.specs.Replaying.{ticksOf, pokedBy, digitsIn, keeping, performed};
+ghost use Rattle.replies.specs.Replies.{switchedText, heardText, askedText};
+ghost use Rattle.reply_shown.specs.Shown.{octetsText};
+ghost use Rattle.reply_words.specs.Answers.{doneText, tickedText};
 ghost use Rattle.station.specs.Asking.{askOf};
 ghost use Rattle.station.specs.Hearing.{hearOf};
 
@@ -57,7 +56,7 @@ fn tick(station: Station, count: u32, answer: &mut [u8; 40000]) -> Reply
     let ticking = tick_many(station, count);
     let station = ticking.station;
     let done = ticking.answer;
-    let length = replies::put_ticked(done, answer);
+    let length = reply_words::put_ticked(done, answer);
     Reply { station, length }
 }
 
@@ -119,14 +118,14 @@ fn poke(at: usize, digits: &[u8], memory: &mut [u8; 17408], answer: &mut [u8; 40
     ensures { λ _. ⌜ now (answer .exit) ≡ pasted (now (answer .entry)) 0 doneText ⌝ }
 {
     write(at, digits, memory);
-    replies::put_done(answer)
+    reply_words::put_done(answer)
 }
 
 fn peek(peek: Peek, memory: &[u8; 17408], answer: &mut [u8; 40000]) -> usize
     ensures { λ r. ⌜ r ≡ length (octetsText (take (peek .length) (drop (peek .at) (now (memory .entry))))) ⌝ }
     ensures { λ _. ⌜ now (answer .exit) ≡ pasted (now (answer .entry)) 0 (octetsText (take (peek .length) (drop (peek .at) (now (memory .entry))))) ⌝ }
 {
-    replies::put_octets(part_of(memory, peek.at, peek.length), answer)
+    reply_shown::put_octets(part_of(memory, peek.at, peek.length), answer)
 }
 
 fn kept(station: Station, count: usize) -> Reply
@@ -137,6 +136,16 @@ fn kept(station: Station, count: usize) -> Reply
         station,
         length: count,
     }
+}
+
+// The digits from `at` on, at most two for each of `count` octets.
+fn digits_of(line: &[u8], at: usize, count: usize) -> &[u8]
+    ensures { λ r. ⌜ now r ≡ digitsIn (now (line .entry)) at count ⌝ }
+{
+    if line.len() / 2 < count {
+        return part_of(line, at, line.len());
+    }
+    part_of(line, at, 2 * count)
 }
 
 // What a command does. The line that it came in, or the front of that line, is where its digits stand.
@@ -170,7 +179,10 @@ pub fn perform(
             answer,
         ),
         Command::Ask => ask(station, memory, turn, frame, answer),
-        Command::Panel => kept(station, replies::put_panel(states::show(station), answer)),
+        Command::Panel => kept(
+            station,
+            reply_shown::put_panel(states::show(station), answer),
+        ),
         Command::Poke(octets) => kept(
             station,
             poke(
@@ -182,6 +194,6 @@ pub fn perform(
         ),
         Command::Peek(octets) => kept(station, peek(octets, memory, answer)),
         Command::State => kept(station, reply_state::put_state(station, answer)),
-        Command::Bad => kept(station, replies::put_bad(answer)),
+        Command::Bad => kept(station, reply_words::put_bad(answer)),
     }
 }
