@@ -1,9 +1,9 @@
--- `settle_print::stage_of` meets its contract.
+-- `settle_rest::stage_of` meets its contract.
 use mathlib.Core.Path.{sym, ap}
-use Rattle.settle_print.specs.Parts.{stageOf}
+use Rattle.settle_rest.specs.Rest.{stageOf}
 use borrow.Author.Needs.{needs}
-use Rattle.settle_print.proofs.stage_of.Statement.{statement}
-use Rattle.settle_print.proofs.stage_of.Tie as tie
+use Rattle.settle_rest.proofs.stage_of.Statement.{statement}
+use Rattle.settle_rest.proofs.stage_of.Tie as tie
 
 enum-known-verdict : tie.Need-enum-known-verdict
 enum-known-verdict c = search needs

@@ -1,4 +1,4 @@
--- The whole output of `settle` for an input, and the paper's example. `Joined` shows that it is what is printed.
+-- The whole output of `settle` for an input, and the paper's example. `settle_print/specs/Joined.antt` shows that it is what is printed.
 use mathlib.Core.Path.{_≡_, refl}
 use mathlib.Core.List.{List, [], _∷_, _++_}
 use Prim.Native.Nat.{ℕ, zero, suc, _+_}

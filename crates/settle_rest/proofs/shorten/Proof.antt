@@ -1,11 +1,11 @@
--- `settle_print::shorten` meets its contract.
+-- `settle_rest::shorten` meets its contract.
 use mathlib.Core.Path.{_≡_, sym}
 use Prim.Native.Nat.{min}
 use native.Mathlib.Omega.{arith}
-use Rattle.settle_print.specs.Shown.{all-shown}
+use Rattle.settle_rest.specs.Shown.{all-shown}
 use borrow.Author.Needs.{needs}
-use Rattle.settle_print.proofs.shorten.Statement.{statement}
-use Rattle.settle_print.proofs.shorten.Tie as tie
+use Rattle.settle_rest.proofs.shorten.Statement.{statement}
+use Rattle.settle_rest.proofs.shorten.Tie as tie
 
 returns : tie.Need-returns
 returns c = sym (all-shown (c .before .args .shown) (c .before .args .printing) (c .if1 .taken))

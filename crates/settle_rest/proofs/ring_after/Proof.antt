@@ -1,12 +1,12 @@
--- `settle_print::ring_after` meets its contract.
+-- `settle_rest::ring_after` meets its contract.
 use mathlib.Core.Path.{_≡_, refl, ap, _∙_}
 use Prim.Native.Nat.{ℕ, suc, _-_}
 use native.Mathlib.Omega.{arith}
 use Rattle.settle_run.specs.declared.Stepped.{Stepped}
-use Rattle.settle_print.specs.Parts.{ringAfter}
+use Rattle.settle_rest.specs.Rest.{ringAfter}
 use borrow.Author.Needs.{needs}
-use Rattle.settle_print.proofs.ring_after.Statement.{statement}
-use Rattle.settle_print.proofs.ring_after.Tie as tie
+use Rattle.settle_rest.proofs.ring_after.Statement.{statement}
+use Rattle.settle_rest.proofs.ring_after.Tie as tie
 
 abbrev Inv-loop : tie.InvT-loop
 Inv-loop steps now₀ left₀ now left = ringAfter left now ≡ ringAfter left₀ now₀

@@ -1,12 +1,12 @@
--- `settle_print::begin` meets its contract.
+-- `settle_rest::begin` meets its contract.
 use mathlib.Core.Path.{ap, _∙_}
 use Prim.Native.Nat.{_+_}
 use Rattle.settle_input.specs.declared.Reading.{Reading}
 use Rattle.settle_run.specs.Run.{settledOf}
-use Rattle.settle_print.specs.Parts.{stageOf, printingOf}
+use Rattle.settle_rest.specs.Rest.{stageOf, printingOf}
 use borrow.Author.Needs.{needs}
-use Rattle.settle_print.proofs.begin.Statement.{statement}
-use Rattle.settle_print.proofs.begin.Tie as tie
+use Rattle.settle_rest.proofs.begin.Statement.{statement}
+use Rattle.settle_rest.proofs.begin.Tie as tie
 
 read-ring-requires : tie.Need-read-ring-requires
 read-ring-requires c κs = search needs

@@ -6,9 +6,9 @@ use native.Mathlib.Omega.{arith}
 use Rattle.views.specs.declared.Ring.{Ring}
 use Rattle.settle_output.specs.Output.{stepLine, settledLine}
 use Rattle.settle_run.specs.Run.{steppedOf}
-use Rattle.settle_print.specs.Whole.{stepLines}
-use Rattle.settle_print.specs.Parts.{runRest, ringAfter, shortened}
-use Rattle.settle_print.specs.declared.Printing.{Printing}
+use Rattle.settle_rest.specs.Whole.{stepLines}
+use Rattle.settle_rest.specs.Rest.{runRest, ringAfter, shortened}
+use Rattle.settle_rest.specs.declared.Printing.{Printing}
 
 -- some steps, and the others from the ring that these leave
 steps-parted : (first rest : ℕ) (ring : Ring) → stepLines first ring ++ stepLines rest (ringAfter first ring) ≡ stepLines (first + rest) ring
