@@ -12,7 +12,7 @@ use Rattle.decoding.specs.Gathering.{fresh, pushed, bufferBy, bufferAfter, answ
 use Rattle.decoding.specs.Heard.{line-heard}
 use Rattle.text_hexadecimal.specs.Hexadecimal.{digitOf}
 use Rattle.decoding.specs.Line.{lineAnswer, pushedAll, bufferAll}
-use Rattle.decoding.specs.Scans.{NoFeed}
+use Rattle.text_scanning.specs.Scanning.{NoFeed}
 use Rattle.decoding.specs.declared.Answer.the-variants as answers
 use Rattle.decoding.specs.declared.Gathered.{Gathered}
 use Rattle.text_hexadecimal.specs.declared.Hexadecimal.{Hexadecimal}

@@ -2,6 +2,5 @@
 pub mod Gathering
 pub mod Line
 -- Theorems.
-pub mod Scans
 pub mod Heard
 pub mod Begun

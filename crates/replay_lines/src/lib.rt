@@ -8,7 +8,7 @@ ghost use lib.ListN.{length};
 ghost use Rattle.copying.specs.Pasted.{pasted};
 ghost use Rattle.feeding.specs.Feeding.{between, ended, Forward};
 ghost use Rattle.replaying.specs.Replaying.{keeping};
-ghost use Rattle.replay_lines.specs.Replay.{held, lineDone, after, answers, answerToRest};
+ghost use Rattle.replay_lines.specs.Replay.{held, lineDone, after, answers};
 
 // The station, the line so far, the place in the part of the input that is being read, and whether to go on.
 pub struct Going {
@@ -96,15 +96,4 @@ pub fn take_next(
         ended: false,
         length: 0,
     }
-}
-
-// A last line without its line feed is no command.
-pub fn put_rest(line: Line, text: &mut [u8; 40]) -> usize
-    ensures { λ r. ⌜ r ≡ length (answerToRest line) ⌝ }
-    ensures { λ _. ⌜ now (text .exit) ≡ pasted (now (text .entry)) 0 (answerToRest line) ⌝ }
-{
-    if 0 < line.count {
-        return reply_words::put_bad(text);
-    }
-    0
 }

@@ -10,7 +10,8 @@ ghost use Prim.Native.Nat.{ℕ, _<_};
 ghost use lib.ListN.{length, take};
 ghost use Rattle.feeding.specs.Feeding.{between, Onward, Taken, Arrived};
 ghost use Rattle.input_line.specs.Gathering.{fresh};
-ghost use Rattle.replay_lines.specs.Replay.{held, after, Answering, start, answerToRest};
+ghost use Rattle.replay_end.specs.End.{answerToRest};
+ghost use Rattle.replay_lines.specs.Replay.{held, after, Answering, start};
 ghost use Rattle.station.specs.State.{never};
 
 // Hands an answer to standard output. No contract can say what is written; that it is the answer is asked of the caller.
@@ -179,6 +180,6 @@ pub fn run() {
     let going = replay_input();
     let rest = going.line;
     let mut text = [0u8; 40];
-    let end = replay_lines::put_rest(rest, &mut text);
+    let end = replay_end::put_rest(rest, &mut text);
     write_rest(rest, &text[0..end]);
 }

@@ -1,12 +1,12 @@
--- `replay_lines::put_rest` meets its contract.
+-- `replay_end::put_rest` meets its contract.
 use mathlib.Core.Path.{_≡_, refl, sym}
 use mathlib.Core.Bool.{true, false}
 use lib.Dec.{ltb}
 use borrow.Author.Tests.{lt-ltb, le-ltb}
 use Rattle.copying.specs.Laws.{paste-nothing}
 use borrow.Author.Needs.{needs}
-use Rattle.replay_lines.proofs.put_rest.Statement.{statement}
-use Rattle.replay_lines.proofs.put_rest.Tie as tie
+use Rattle.replay_end.proofs.put_rest.Statement.{statement}
+use Rattle.replay_end.proofs.put_rest.Tie as tie
 
 put-bad-requires : tie.Need-put-bad-requires
 put-bad-requires c κs = search needs
