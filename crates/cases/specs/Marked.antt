@@ -18,7 +18,7 @@ use Rattle.reading.specs.Reading.{fieldsOf, readOf}
 use Rattle.reading.specs.declared.Read.{Read}
 use Rattle.reading.specs.declared.Read.the-variants as reads
 use Rattle.settle_input.specs.Input.{linesOf, entryOf, formsFrom}
-use Rattle.settle_print.specs.Whole.{stepLines, outputOf}
+use Rattle.settle_rest.specs.Whole.{stepLines, outputOf}
 use Rattle.settle_run.specs.Run.{runFrom}
 use Rattle.station.specs.Rules.Starting.{Switching, startOf}
 use Rattle.station.specs.Rules.State.{never}

@@ -7,7 +7,7 @@ use lib.ListN.{length, getD, take, drop}
 use Rattle.input_line.specs.Gathering.{longest, sizeIn}
 use Rattle.input_line.specs.declared.Line.{Line}
 use Rattle.text.specs.Lines.{space}
-use Rattle.words.specs.Octets.{octetsOf}
+use Rattle.text_hexadecimal.specs.Octets.{octetsOf}
 use Rattle.words.specs.Words.{begins, same, wordsBehind, numberIn}
 use Rattle.commands.specs.declared.Command.{Command}
 use Rattle.commands.specs.declared.Command.the-variants.{Start, Stop, Tick, Hear, Ask, Panel, Poke, Peek, State, Bad}

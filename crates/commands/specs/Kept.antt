@@ -9,8 +9,8 @@ use lib.ListN.{length, take, drop, length-take, length-drop, drop-of-length-le}
 use lib.Seq.{take-all, take-take, take-add, drop-at, length-take-le}
 use borrow.Author.Tests.{le-leb, lt-leb}
 use Rattle.input_line.specs.Gathering.{longest, fresh, bufferAll}
-use Rattle.words.specs.OctetLaws.{octets-most, octets-first}
-use Rattle.words.specs.Octets.{octetsOf}
+use Rattle.text_hexadecimal.specs.OctetLaws.{octets-most, octets-first}
+use Rattle.text_hexadecimal.specs.Octets.{octetsOf}
 use Rattle.commands.specs.Commands.{kept}
 use Rattle.commands.specs.Whole.{counted, counted-least, line-stored}
 

@@ -13,8 +13,8 @@ use borrow.Author.Tests.{lt-ltb, le-ltb, lt-leb, le-leb, eq-eqb, ne-eqb}
 use Rattle.input_line.specs.Gathering.{longest, fresh, countAfter, pushed, sizeIn, pushedAll, bufferAll}
 use Rattle.input_line.specs.declared.Line.{Line}
 use Rattle.commands.specs.Commands.{hearSpace, kept, hearOf, shortOf, commandOf, commandBy, commandIn}
-use Rattle.words.specs.Octets.{isHexadecimal, allHexadecimal, octetsOf}
-use Rattle.words.specs.OctetLaws.{even, octets-length}
+use Rattle.text_hexadecimal.specs.Octets.{isHexadecimal, allHexadecimal, octetsOf}
+use Rattle.text_hexadecimal.specs.OctetLaws.{even, octets-length}
 use Rattle.words.specs.Words.{begins}
 use Rattle.commands.specs.declared.Command.{Command}
 use Rattle.commands.specs.declared.Command.the-variants.{Hear, Bad}

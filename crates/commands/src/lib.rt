@@ -4,11 +4,11 @@ use area::Part;
 use input_line::Line;
 use input_line::size_in;
 use station::Settings;
+use text_hexadecimal::size_of;
 use units::Milliseconds;
 use words::begins;
 use words::number_at;
 use words::same;
-use words::size_of;
 use words::word_end;
 ghost use mathlib.Core.Path.{_≡_};
 ghost use Rattle.words.specs.Words.{wordsBehind};
@@ -122,7 +122,7 @@ fn peek_of(line: &[u8]) -> Command
     let size = number_at(line, place.end);
     let at = place.value as usize;
     let length = size.value as usize;
-    if (line.len() <= size.end) & (at + length <= 17408) {
+    if (line.len() <= size.end) & (at + length <= area::MEMORY_OCTETS) {
         Command::Peek(Peek { at, length })
     } else {
         Command::Bad
@@ -132,10 +132,10 @@ fn peek_of(line: &[u8]) -> Command
 fn poke_by(at: usize, digits: usize, count: usize) -> Command
     ensures { λ r. ⌜ r ≡ pokeBy at digits count ⌝ }
 {
-    if 17408 < at {
+    if area::MEMORY_OCTETS < at {
         return Command::Bad;
     }
-    if 17408 - at < count {
+    if area::MEMORY_OCTETS - at < count {
         return Command::Bad;
     }
     if count == 0 {

@@ -10,13 +10,13 @@ use Rattle.answering.specs.Answers.{textOf}
 use Rattle.decoding.specs.Begun.{begun-line}
 use Rattle.decoding.specs.Gathering.{fresh, pushed, bufferBy, bufferAfter, answered}
 use Rattle.decoding.specs.Heard.{line-heard}
-use Rattle.decoding.specs.Hexadecimal.{digitOf}
+use Rattle.text_hexadecimal.specs.Hexadecimal.{digitOf}
 use Rattle.decoding.specs.Line.{lineAnswer, pushedAll, bufferAll}
-use Rattle.decoding.specs.Scans.{NoFeed}
+use Rattle.text_scanning.specs.Scanning.{NoFeed}
 use Rattle.decoding.specs.declared.Answer.the-variants as answers
 use Rattle.decoding.specs.declared.Gathered.{Gathered}
-use Rattle.decoding.specs.declared.Hexadecimal.{Hexadecimal}
-use Rattle.decoding.specs.declared.Hexadecimal.the-variants.{Digit, Other}
+use Rattle.text_hexadecimal.specs.declared.Hexadecimal.{Hexadecimal}
+use Rattle.text_hexadecimal.specs.declared.Hexadecimal.the-variants.{Digit, Other}
 use Rattle.decoding.specs.declared.Pending.{Pending}
 use Rattle.decoding.specs.declared.Pending.the-variants.{Nothing, Half, Bad}
 use Rattle.feeding.specs.Feeding as feeding

@@ -3,9 +3,9 @@ use mathlib.Core.Path.{_≡_, refl}
 use mathlib.Core.List.{List, [], _∷_}
 use Prim.Native.Nat.{ℕ}
 use lib.ListN.{drop}
-use Rattle.decoding.specs.Gathering.{pushed, bufferAfter, scanned, bufferScanned}
+use Rattle.decoding.specs.Gathering.{pushed, bufferAfter, made, scanned, bufferScanned}
 use Rattle.decoding.specs.Line.{pushedAll, bufferAll}
-use Rattle.decoding.specs.Scans.{scan-part, buffer-part, scan-line, buffer-line}
+use Rattle.text_scanning.specs.Scans.{scan-part, buffer-part, scan-line, buffer-line}
 use Rattle.decoding.specs.declared.Gathered.{Gathered}
 use Rattle.decoding.specs.declared.Scanned.{Scanned}
 use Rattle.feeding.specs.Feeding as feeding
@@ -30,15 +30,15 @@ module _ (room : ℕ) (line : Gathered) (frame part : List ℕ) (at : ℕ) where
       by (feed octets rest none same) =
           rw (
             same,
-            scan-line room octets line at rest none,
-            buffer-line room octets line frame rest none,
+            scan-line (pushed room) made octets line at rest none,
+            buffer-line (pushed room) bufferAfter octets line frame rest none,
             ← pushed-both room octets line frame,
           )
           (scan-feed (decode room) (carried line frame) part at octets rest none same)
       by (clean none) =
           rw (
-            scan-part room (drop at part) line at none,
-            buffer-part room (drop at part) line frame none,
+            scan-part (pushed room) made (drop at part) line at none,
+            buffer-part (pushed room) bufferAfter (drop at part) line frame none,
             ← pushed-both room (drop at part) line frame,
           )
           (scan-clean (decode room) (carried line frame) part at none)

@@ -7,11 +7,11 @@ use native.Mathlib.Decide.{decLt}
 use native.Mathlib.Omega.{arith}
 use borrow.Author.Tests.{lt-ltb, le-ltb}
 use Rattle.decoding.specs.Gathering.{countAfter, pushedBy, pushed, begun}
-use Rattle.decoding.specs.Hexadecimal.{digitOf}
+use Rattle.text_hexadecimal.specs.Hexadecimal.{digitOf}
 use Rattle.decoding.specs.Line.{pushedAll}
 use Rattle.decoding.specs.declared.Gathered.{Gathered}
-use Rattle.decoding.specs.declared.Hexadecimal.{Hexadecimal}
-use Rattle.decoding.specs.declared.Hexadecimal.the-variants.{Digit, Other}
+use Rattle.text_hexadecimal.specs.declared.Hexadecimal.{Hexadecimal}
+use Rattle.text_hexadecimal.specs.declared.Hexadecimal.the-variants.{Digit, Other}
 use Rattle.decoding.specs.declared.Pending.{Pending}
 use Rattle.decoding.specs.declared.Pending.the-variants.{Nothing, Half, Bad}
 

@@ -1,17 +1,17 @@
 -- A line that comes octet by octet, into a buffer of limited length.
 use Prim.Native.Nat.{ℕ, _+_, _*_, _%_}
-use mathlib.Core.Bool.{Bool, true, false, cond}
-use mathlib.Core.List.{List, [], _∷_}
-use lib.Dec.{ltb, eqb}
+use mathlib.Core.Bool.{Bool, true, cond}
+use mathlib.Core.List.{List}
+use lib.Dec.{ltb}
 use lib.ListN.{length, set, take}
 use Rattle.reading.specs.Reading.{readOf}
-use Rattle.text.specs.Lines.{lineFeed}
-use Rattle.decoding.specs.Hexadecimal.{digitOf}
+use Rattle.text_hexadecimal.specs.Hexadecimal.{digitOf}
+use Rattle.text_scanning.specs.Scanning.{scanOf, bufferOf}
 use Rattle.decoding.specs.declared.Answer.{Answer}
 use Rattle.decoding.specs.declared.Answer.the-variants as answers
 use Rattle.decoding.specs.declared.Gathered.{Gathered}
-use Rattle.decoding.specs.declared.Hexadecimal.{Hexadecimal}
-use Rattle.decoding.specs.declared.Hexadecimal.the-variants.{Digit, Other}
+use Rattle.text_hexadecimal.specs.declared.Hexadecimal.{Hexadecimal}
+use Rattle.text_hexadecimal.specs.declared.Hexadecimal.the-variants.{Digit, Other}
 use Rattle.decoding.specs.declared.Pending.{Pending}
 use Rattle.decoding.specs.declared.Pending.the-variants.{Nothing, Half, Bad}
 use Rattle.decoding.specs.declared.Scanned.{Scanned}
@@ -75,16 +75,12 @@ begun gathered = begunBy (gathered .count) (gathered .pending)
 
 -- the octets of a text from place `at` on, up to its next line feed or its end: what has come then, the place behind, and whether the line
 -- has ended
-abbrev pub scanned : ℕ → Gathered → ℕ → List ℕ → Scanned
-scanned room gathered at [] = record { gathered = gathered; next = at; ended = false }
-scanned room gathered at (octet ∷ rest) =
-    cond (eqb octet lineFeed)
-    (record { gathered = gathered; next = at + 1; ended = true })
-    (scanned room (pushed room gathered octet) (at + 1) rest)
+abbrev pub made : Gathered → ℕ → Bool → Scanned
+made gathered next ended = record { gathered = gathered; next = next; ended = ended }
 
+abbrev pub scanned : ℕ → Gathered → ℕ → List ℕ → Scanned
+scanned room gathered at text = scanOf (pushed room) made gathered at text
+
+-- and the buffer then
 abbrev pub bufferScanned : ℕ → Gathered → List ℕ → List ℕ → List ℕ
-bufferScanned room gathered buffer [] = buffer
-bufferScanned room gathered buffer (octet ∷ rest) =
-    cond (eqb octet lineFeed)
-    buffer
-    (bufferScanned room (pushed room gathered octet) (bufferAfter gathered buffer octet) rest)
+bufferScanned room gathered buffer text = bufferOf (pushed room) bufferAfter gathered buffer text

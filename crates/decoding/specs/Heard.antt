@@ -12,15 +12,15 @@ use borrow.Author.Tests.{lt-ltb, le-ltb, lt-leb, le-leb}
 use Rattle.frame.specs.declared.Refusal.the-variants.{Cut}
 use Rattle.reading.specs.Reading.{readOf}
 use Rattle.reading.specs.declared.Read.the-variants.{Refused}
-use Rattle.decoding.specs.Digits.{Below, digit-below}
+use Rattle.text_hexadecimal.specs.Digits.{Below, digit-below}
 use Rattle.decoding.specs.Gathering.{fresh, octetOf, countAfter, pushedBy, bufferBy, answerBy, answered}
-use Rattle.decoding.specs.Hexadecimal.{Spelled, octets, neither, joined, spelled, digitOf}
+use Rattle.text_hexadecimal.specs.Hexadecimal.{Spelled, octets, neither, joined, spelled, digitOf}
 use Rattle.decoding.specs.Line.{answerFor, lineAnswer, pushedAll, bufferAll}
 use Rattle.decoding.specs.declared.Answer.{Answer}
 use Rattle.decoding.specs.declared.Answer.the-variants as answers
 use Rattle.decoding.specs.declared.Gathered.{Gathered}
-use Rattle.decoding.specs.declared.Hexadecimal.{Hexadecimal}
-use Rattle.decoding.specs.declared.Hexadecimal.the-variants.{Digit, Other}
+use Rattle.text_hexadecimal.specs.declared.Hexadecimal.{Hexadecimal}
+use Rattle.text_hexadecimal.specs.declared.Hexadecimal.the-variants.{Digit, Other}
 use Rattle.decoding.specs.declared.Pending.the-variants.{Nothing, Bad}
 
 -- so many octets stored, and nothing pending; or a bad line

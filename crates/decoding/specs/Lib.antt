@@ -1,9 +1,6 @@
 -- The definitions of this crate, and what is proved of them.
-pub mod Hexadecimal
 pub mod Gathering
 pub mod Line
 -- Theorems.
-pub mod Scans
-pub mod Digits
 pub mod Heard
 pub mod Begun

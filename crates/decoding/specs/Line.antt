@@ -1,9 +1,10 @@
 -- The answer to a whole line.
 use Prim.Native.Nat.{ℕ}
-use mathlib.Core.List.{List, [], _∷_}
+use mathlib.Core.List.{List}
 use Rattle.reading.specs.Reading.{readOf}
 use Rattle.decoding.specs.Gathering.{pushed, bufferAfter}
-use Rattle.decoding.specs.Hexadecimal.{Spelled, octets, neither, spelled}
+use Rattle.text_hexadecimal.specs.Hexadecimal.{Spelled, octets, neither, spelled}
+use Rattle.text_scanning.specs.Scanning.{pushAll, storeAll}
 use Rattle.decoding.specs.declared.Answer.{Answer}
 use Rattle.decoding.specs.declared.Answer.the-variants.{Heard, Bad}
 use Rattle.decoding.specs.declared.Gathered.{Gathered}
@@ -18,9 +19,7 @@ lineAnswer line = answerFor (spelled line)
 
 -- all octets of a line, one by one, into a buffer of so many octets
 abbrev pub pushedAll : ℕ → Gathered → List ℕ → Gathered
-pushedAll room gathered [] = gathered
-pushedAll room gathered (octet ∷ line) = pushedAll room (pushed room gathered octet) line
+pushedAll room gathered line = pushAll (pushed room) gathered line
 
 abbrev pub bufferAll : ℕ → Gathered → List ℕ → List ℕ → List ℕ
-bufferAll room gathered buffer [] = buffer
-bufferAll room gathered buffer (octet ∷ line) = bufferAll room (pushed room gathered octet) (bufferAfter gathered buffer octet) line
+bufferAll room gathered buffer line = storeAll (pushed room) bufferAfter gathered buffer line

@@ -2,17 +2,12 @@
 // needs no more memory than the longest frame.
 
 use reading::Read;
+use text_hexadecimal::Hexadecimal;
+use text_hexadecimal::digit_of;
 ghost use mathlib.Core.Path.{_≡_};
 ghost use lib.ListN.{length, set, take, drop};
 ghost use Rattle.reading.specs.Reading.{readOf};
-ghost use Rattle.decoding.specs.Hexadecimal.{digitOf};
 ghost use Rattle.decoding.specs.Gathering.{fresh, octetOf, countAfter, placed, stored, pushed, bufferAfter, answered, begun, scanned, bufferScanned};
-
-// What an octet of the line stands for.
-pub enum Hexadecimal {
-    Digit(u8),
-    Other,
-}
 
 // How far a line has come.
 pub enum Pending {
@@ -41,17 +36,6 @@ pub struct Scanned {
 pub enum Answer {
     Heard(Read),
     Bad,
-}
-
-pub fn digit_of(octet: u8) -> Hexadecimal
-    ensures { λ r. ⌜ r ≡ digitOf octet ⌝ }
-{
-    match octet {
-        b'0'..=b'9' => Hexadecimal::Digit(octet - 48),
-        b'A'..=b'F' => Hexadecimal::Digit(octet - 55),
-        b'a'..=b'f' => Hexadecimal::Digit(octet - 87),
-        _ => Hexadecimal::Other,
-    }
 }
 
 pub fn start() -> Gathered
@@ -103,7 +87,7 @@ fn place(count: usize, pending: Pending, digit: u8, buffer: &mut [u8]) -> Gather
 }
 
 // One more octet of the line.
-pub fn push(gathered: Gathered, octet: u8, buffer: &mut [u8]) -> Gathered
+fn push(gathered: Gathered, octet: u8, buffer: &mut [u8]) -> Gathered
     ensures { λ r. ⌜ r ≡ pushed (length (now (buffer .entry))) gathered octet ⌝ }
     ensures { λ _. ⌜ now (buffer .exit) ≡ bufferAfter gathered (now (buffer .entry)) octet ⌝ }
 {

@@ -4,7 +4,7 @@ use mathlib.Core.Bool.{Bool, cond}
 use mathlib.Core.List.{List, [], _∷_, _++_, append-assoc}
 use Prim.Native.Nat.{ℕ}
 use Rattle.text.specs.Lines.{lineFeed}
-use Rattle.decoding.specs.Scans.{NoFeed}
+use Rattle.text_scanning.specs.Scanning.{NoFeed}
 use Rattle.feeding.specs.Feeding.{Program, fed, answered, fedAll, answeredAll, pushedAll}
 
 module _ {State : Type 0} (program : Program State) where

@@ -6,6 +6,7 @@ use mathlib.Core.List.{List, [], _∷_, _++_}
 use lib.Dec.{eqb, ltb}
 use lib.ListN.{length, getD, take, drop}
 use Rattle.text.specs.Lines.{lineFeed}
+use Rattle.text_scanning.specs.Scanning.{pushAll}
 
 -- such a program: the state after one more octet of a line, the state behind the end of a line, and what is answered to that line
 pub record Program (State : Type 0) : Type 0 where
@@ -33,8 +34,7 @@ answeredAll program state (octet ∷ rest) = answered program state octet ++ ans
 
 -- all octets of a line, which has no line feed
 abbrev pub pushedAll : {State : Type 0} → Program State → State → List ℕ → State
-pushedAll program state [] = state
-pushedAll program state (octet ∷ rest) = pushedAll program (program .pushed state octet) rest
+pushedAll program state line = pushAll (program .pushed) state line
 
 -- the octets of a part of a text from one place to another
 abbrev pub between : ℕ → ℕ → List ℕ → List ℕ

@@ -7,7 +7,7 @@ use Prim.Native.Nat.{ℕ}
 use lib.Dec.{eqb}
 use borrow.Author.Tests.{eqb-true}
 use Rattle.text.specs.Lines.{lineFeed}
-use Rattle.decoding.specs.Scans.{NoFeed}
+use Rattle.text_scanning.specs.Scanning.{NoFeed}
 use Rattle.feeding.specs.Feeding.{Program, fedAll, answeredAll, pushedAll}
 use Rattle.feeding.specs.Fed.{fed-part, answered-part, fed-line, answered-line}
 

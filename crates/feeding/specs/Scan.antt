@@ -12,7 +12,7 @@ use lib.Seq.{take-all, take-add, take-take, take-append-add, getD-append-seam, g
 use borrow.Author.Tests.{lt-ltb, le-ltb}
 use Rattle.laws.specs.Tests.{both, second}
 use Rattle.text.specs.Lines.{lineFeed}
-use Rattle.decoding.specs.Scans.{NoFeed}
+use Rattle.text_scanning.specs.Scanning.{NoFeed}
 use Rattle.feeding.specs.Feeding.{Program, fedAll, answeredAll, pushedAll, between, ended, Forward, Onward, Taken, Arrived}
 use Rattle.feeding.specs.Fed.{fed-parts, fed-part, answered-part, fed-line, answered-line}
 

@@ -1,11 +1,11 @@
 -- A line that comes octet by octet, into a buffer of limited length.
 use Prim.Native.Nat.{ℕ, _+_, _-_, _/_}
-use mathlib.Core.Bool.{true, false, cond, not, _&&_}
-use mathlib.Core.List.{List, [], _∷_}
-use lib.Dec.{eqb, leb, ltb}
+use mathlib.Core.Bool.{Bool, true, false, cond, not, _&&_}
+use mathlib.Core.List.{List}
+use lib.Dec.{leb, ltb}
 use lib.ListN.{set}
-use Rattle.text.specs.Lines.{lineFeed}
-use Rattle.words.specs.Octets.{isHexadecimal}
+use Rattle.text_hexadecimal.specs.Octets.{isHexadecimal}
+use Rattle.text_scanning.specs.Scanning.{pushAll, storeAll, scanOf, bufferOf}
 use Rattle.input_line.specs.declared.Line.{Line}
 use Rattle.input_line.specs.declared.Scanned.{Scanned}
 
@@ -30,18 +30,18 @@ pushed line octet =
 
 -- the octets of a text from place `at` on, up to its next line feed or its end: what has come then, the place behind, and whether the line
 -- has ended
+abbrev pub made : Line → ℕ → Bool → Scanned
+made line next ended = record { line = line; next = next; ended = ended }
+
 abbrev pub scanned : Line → ℕ → List ℕ → Scanned
-scanned line at [] = record { line = line; next = at; ended = false }
-scanned line at (octet ∷ rest) =
-    cond (eqb octet lineFeed)
-    (record { line = line; next = at + 1; ended = true })
-    (scanned (pushed line octet) (at + 1) rest)
+scanned line at text = scanOf pushed made line at text
 
 -- and the buffer then: each octet is stored behind those before it, where there is room
+abbrev pub stored : Line → List ℕ → ℕ → List ℕ
+stored line buffer octet = set buffer (line .count) octet
+
 abbrev pub bufferScanned : Line → List ℕ → List ℕ → List ℕ
-bufferScanned line buffer [] = buffer
-bufferScanned line buffer (octet ∷ rest) =
-    cond (eqb octet lineFeed) buffer (bufferScanned (pushed line octet) (set buffer (line .count) octet) rest)
+bufferScanned line buffer text = bufferOf pushed stored line buffer text
 
 -- how many octets the digits from place 5 on spell
 abbrev pub sizeIn : Line → ℕ
@@ -49,9 +49,7 @@ sizeIn line = cond (line .digits && not (line .odd)) ((line .count - 5) / 2) 0
 
 -- all octets of a line, one by one, and the buffer then
 abbrev pub pushedAll : Line → List ℕ → Line
-pushedAll line [] = line
-pushedAll line (octet ∷ rest) = pushedAll (pushed line octet) rest
+pushedAll line octets = pushAll pushed line octets
 
 abbrev pub bufferAll : Line → List ℕ → List ℕ → List ℕ
-bufferAll line buffer [] = buffer
-bufferAll line buffer (octet ∷ rest) = bufferAll (pushed line octet) (set buffer (line .count) octet) rest
+bufferAll line buffer octets = storeAll pushed stored line buffer octets

@@ -1,4 +1,2 @@
 -- The definitions of this crate, and what is proved of them.
 pub mod Gathering
--- Theorems.
-pub mod Scans

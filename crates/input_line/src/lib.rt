@@ -1,6 +1,6 @@
 // A line of the program `replay`'s input. It comes octet by octet, so that a line of any length needs no more memory than the longest command
 // that is not a `hear`.
-use words::is_hexadecimal;
+use text_hexadecimal::is_hexadecimal;
 ghost use mathlib.Core.Path.{_≡_};
 ghost use lib.ListN.{set, drop};
 ghost use Rattle.input_line.specs.Gathering.{fresh, countAfter, pushed, scanned, bufferScanned, sizeIn};
@@ -45,7 +45,7 @@ fn store(count: usize, octet: u8, buffer: &mut [u8])
 }
 
 // One more octet of the line.
-pub fn push(line: Line, octet: u8, buffer: &mut [u8]) -> Line
+fn push(line: Line, octet: u8, buffer: &mut [u8]) -> Line
     ensures { λ r. ⌜ r ≡ pushed line octet ⌝ }
     ensures { λ _. ⌜ now (buffer .exit) ≡ set (now (buffer .entry)) (line .count) octet ⌝ }
 {

@@ -53,8 +53,8 @@ use Rattle.ring.specs.Events.{Stations, Event, afterEvent, AllName, CanCome}
 use Rattle.round_trip.specs.ReadBack.{Sendable, fields-read, data-read}
 use Rattle.round_trip.specs.WriteBack.{WrittenBack, written-back}
 use Rattle.settle_print.specs.Joined.{handed, afterFills, printed-whole}
-use Rattle.settle_print.specs.Parts.{printingOf, isOver}
-use Rattle.settle_print.specs.Whole.{outputOf}
+use Rattle.settle_rest.specs.Rest.{printingOf, isOver}
+use Rattle.settle_rest.specs.Whole.{outputOf}
 use Rattle.settle_run.specs.Run.{isRing, settledOf, Bounded}
 use Rattle.settle_run.specs.Whole.{Whole as WholeRun, settled-run, settled-bounded}
 use Rattle.settling.specs.First.{FirstAgreement}

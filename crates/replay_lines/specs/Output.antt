@@ -9,16 +9,17 @@ use lib.Dec.{leb, ltb}
 use lib.ListN.{length, set, length-set}
 use borrow.Author.Tests.{lt-ltb}
 use Rattle.commands.specs.Commands.{commandOf}
-use Rattle.decoding.specs.Scans.{NoFeed}
+use Rattle.text_scanning.specs.Scanning.{NoFeed}
 use Rattle.feeding.specs.Feeding as feeding
 use Rattle.feeding.specs.Lines.{parted, Meaning, afterAll, repliesTo, Meant, Came, text-came}
 use Rattle.input_line.specs.Gathering.{longest, fresh, pushed, pushedAll, bufferAll}
 use Rattle.input_line.specs.declared.Line.{Line}
 use Rattle.replaying.specs.Lines.{line-performed}
 use Rattle.replaying.specs.Replaying.{Kept, Performed, performed}
-use Rattle.replies.specs.Replies.{badText}
-use Rattle.words.specs.Octets.{isHexadecimal}
-use Rattle.replay_lines.specs.Replay.{Carried, carried, lineDone, replay, after, start, answerToRest, outputOf}
+use Rattle.reply_words.specs.Answers.{badText}
+use Rattle.text_hexadecimal.specs.Octets.{isHexadecimal}
+use Rattle.replay_end.specs.End.{answerToRest}
+use Rattle.replay_lines.specs.Replay.{Carried, carried, lineDone, replay, after, start, outputOf}
 use Rattle.replay_lines.specs.Scanned.{pushed-both}
 
 -- each line meets what the one before it left, and does what `performed` says of the command that the whole line means

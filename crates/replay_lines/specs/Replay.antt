@@ -1,16 +1,14 @@
 -- The program `replay`: commands come octet by octet, and each line is answered by one line.
 use Prim.Native.Nat.{ℕ}
 use mathlib.Core.Path.{_≡_}
-use mathlib.Core.Bool.{cond}
-use mathlib.Core.List.{List, [], _++_}
-use lib.Dec.{ltb}
+use mathlib.Core.List.{List, _++_}
 use lib.ListN.{set, replicate}
 use Rattle.commands.specs.Commands.{commandIn}
 use Rattle.feeding.specs.Feeding.{Program, fedAll, answeredAll}
 use Rattle.input_line.specs.Gathering.{fresh, pushed}
 use Rattle.input_line.specs.declared.Line.{Line}
+use Rattle.replay_end.specs.End.{answerToRest}
 use Rattle.replaying.specs.Replaying.{Kept, keeping, Performed, performed}
-use Rattle.replies.specs.Replies.{badText}
 use Rattle.station.specs.Rules.State.{never}
 use Rattle.station.specs.declared.Station.{Station}
 
@@ -61,10 +59,6 @@ abbrev pub start : Carried
 start =
     held never fresh (replicate 34823 0) (replicate 17408 0) (replicate 17408 0) (replicate 17408 0)
     (replicate 1088 0)
-
--- what is answered to a line without its line feed, at the end of the input
-abbrev pub answerToRest : Line → List ℕ
-answerToRest line = cond (ltb 0 (line .count)) badText []
 
 -- all that is printed for an input
 abbrev pub outputOf : List ℕ → List ℕ

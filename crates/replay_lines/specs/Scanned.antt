@@ -6,8 +6,9 @@ use lib.ListN.{drop, set}
 use Rattle.feeding.specs.Feeding as feeding
 use Rattle.feeding.specs.Cut.{Cut, feed, clean, cut}
 use Rattle.feeding.specs.Scan.{Scan, scan-feed, scan-clean}
-use Rattle.input_line.specs.Gathering.{pushed, scanned, bufferScanned, pushedAll, bufferAll}
-use Rattle.input_line.specs.Scans.{scan-part, buffer-part, scan-line, buffer-line}
+use Rattle.input_line.specs.Gathering.{pushed, made, scanned, bufferScanned, pushedAll, bufferAll}
+use Rattle.text_scanning.specs.Scans.{scan-part, buffer-part, scan-line, buffer-line}
+use Rattle.input_line.specs.Gathering as input
 use Rattle.input_line.specs.declared.Line.{Line}
 use Rattle.input_line.specs.declared.Scanned.{Scanned}
 use Rattle.replaying.specs.Replaying.{Kept}
@@ -30,15 +31,15 @@ module _ (kept : Kept) (line : Line) (stored part : List ℕ) (at : ℕ) where
       by (feed octets rest none same) =
           rw (
             same,
-            scan-line octets line at rest none,
-            buffer-line octets line stored rest none,
+            scan-line pushed made octets line at rest none,
+            buffer-line pushed input.stored octets line stored rest none,
             ← pushed-both octets kept line stored,
           )
           (scan-feed replay (carried kept line stored) part at octets rest none same)
       by (clean none) =
           rw (
-            scan-part (drop at part) line at none,
-            buffer-part (drop at part) line stored none,
+            scan-part pushed made (drop at part) line at none,
+            buffer-part pushed input.stored (drop at part) line stored none,
             ← pushed-both (drop at part) kept line stored,
           )
           (scan-clean replay (carried kept line stored) part at none)

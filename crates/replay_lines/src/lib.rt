@@ -8,7 +8,7 @@ ghost use lib.ListN.{length};
 ghost use Rattle.copying.specs.Pasted.{pasted};
 ghost use Rattle.feeding.specs.Feeding.{between, ended, Forward};
 ghost use Rattle.replaying.specs.Replaying.{keeping};
-ghost use Rattle.replay_lines.specs.Replay.{held, lineDone, after, answers, answerToRest};
+ghost use Rattle.replay_lines.specs.Replay.{held, lineDone, after, answers};
 
 // The station, the line so far, the place in the part of the input that is being read, and whether to go on.
 pub struct Going {
@@ -33,10 +33,10 @@ fn perform_line(
     station: Station,
     line: Line,
     stored: &[u8; 34823],
-    memory: &mut [u8; 17408],
-    assembly: &mut [u8; 17408],
-    turn: &mut [u8; 17408],
-    frame: &mut [u8; 1088],
+    memory: &mut [u8; area::MEMORY_OCTETS],
+    assembly: &mut [u8; area::MEMORY_OCTETS],
+    turn: &mut [u8; area::MEMORY_OCTETS],
+    frame: &mut [u8; frame::OUTPUT_OCTETS],
     answer: &mut [u8; 40000],
 ) -> Reply
     ensures { λ r. ⌜ keeping (r .station) (now (memory .exit)) (now (assembly .exit)) (now (turn .exit)) (now (frame .exit)) ≡ lineDone (held station line (now (stored .entry)) (now (memory .entry)) (now (assembly .entry)) (now (turn .entry)) (now (frame .entry))) .kept ⌝ }
@@ -61,10 +61,10 @@ pub fn take_next(
     going: Going,
     part: &[u8],
     stored: &mut [u8; 34823],
-    memory: &mut [u8; 17408],
-    assembly: &mut [u8; 17408],
-    turn: &mut [u8; 17408],
-    frame: &mut [u8; 1088],
+    memory: &mut [u8; area::MEMORY_OCTETS],
+    assembly: &mut [u8; area::MEMORY_OCTETS],
+    turn: &mut [u8; area::MEMORY_OCTETS],
+    frame: &mut [u8; frame::OUTPUT_OCTETS],
     answer: &mut [u8; 40000],
 ) -> Next
     ensures { λ r. ⌜ held (r .station) (r .line) (now (stored .exit)) (now (memory .exit)) (now (assembly .exit)) (now (turn .exit)) (now (frame .exit)) ≡ after (held (going .station) (going .line) (now (stored .entry)) (now (memory .entry)) (now (assembly .entry)) (now (turn .entry)) (now (frame .entry))) (between (going .at) (r .at) (now (part .entry))) ⌝ }
@@ -96,15 +96,4 @@ pub fn take_next(
         ended: false,
         length: 0,
     }
-}
-
-// A last line without its line feed is no command.
-pub fn put_rest(line: Line, text: &mut [u8; 40]) -> usize
-    ensures { λ r. ⌜ r ≡ length (answerToRest line) ⌝ }
-    ensures { λ _. ⌜ now (text .exit) ≡ pasted (now (text .entry)) 0 (answerToRest line) ⌝ }
-{
-    if 0 < line.count {
-        return replies::put_bad(text);
-    }
-    0
 }

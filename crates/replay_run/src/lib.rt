@@ -10,7 +10,8 @@ ghost use Prim.Native.Nat.{ℕ, _<_};
 ghost use lib.ListN.{length, take};
 ghost use Rattle.feeding.specs.Feeding.{between, Onward, Taken, Arrived};
 ghost use Rattle.input_line.specs.Gathering.{fresh};
-ghost use Rattle.replay_lines.specs.Replay.{held, after, Answering, start, answerToRest};
+ghost use Rattle.replay_end.specs.End.{answerToRest};
+ghost use Rattle.replay_lines.specs.Replay.{held, after, Answering, start};
 ghost use Rattle.station.specs.Rules.State.{never};
 
 // Hands an answer to standard output. No contract can say what is written; that it is the answer is asked of the caller.
@@ -25,10 +26,10 @@ fn replay_next(
     going: Going,
     part: &[u8],
     stored: &mut [u8; 34823],
-    memory: &mut [u8; 17408],
-    assembly: &mut [u8; 17408],
-    turn: &mut [u8; 17408],
-    frame: &mut [u8; 1088],
+    memory: &mut [u8; area::MEMORY_OCTETS],
+    assembly: &mut [u8; area::MEMORY_OCTETS],
+    turn: &mut [u8; area::MEMORY_OCTETS],
+    frame: &mut [u8; frame::OUTPUT_OCTETS],
 ) -> Going
     requires { ⌜ going .at < length (now part) ⌝ }
     ensures { λ r. ⌜ held (r .station) (r .line) (now (stored .exit)) (now (memory .exit)) (now (assembly .exit)) (now (turn .exit)) (now (frame .exit)) ≡ after (held (going .station) (going .line) (now (stored .entry)) (now (memory .entry)) (now (assembly .entry)) (now (turn .entry)) (now (frame .entry))) (between (going .at) (r .at) (now (part .entry))) ⌝ }
@@ -72,10 +73,10 @@ fn replay_part(
     line: Line,
     part: &[u8],
     stored: &mut [u8; 34823],
-    memory: &mut [u8; 17408],
-    assembly: &mut [u8; 17408],
-    turn: &mut [u8; 17408],
-    frame: &mut [u8; 1088],
+    memory: &mut [u8; area::MEMORY_OCTETS],
+    assembly: &mut [u8; area::MEMORY_OCTETS],
+    turn: &mut [u8; area::MEMORY_OCTETS],
+    frame: &mut [u8; frame::OUTPUT_OCTETS],
 ) -> Going
     ensures { λ r. ⌜ held (r .station) (r .line) (now (stored .exit)) (now (memory .exit)) (now (assembly .exit)) (now (turn .exit)) (now (frame .exit)) ≡ after (held station line (now (stored .entry)) (now (memory .entry)) (now (assembly .entry)) (now (turn .entry)) (now (frame .entry))) (take (r .at) (now (part .entry))) ⌝ }
     ensures { λ r. ⌜ Taken (now (part .entry)) (r .at) (r .on) ⌝ }
@@ -98,10 +99,10 @@ fn replay_some(
     line: Line,
     part: &mut [u8],
     stored: &mut [u8; 34823],
-    memory: &mut [u8; 17408],
-    assembly: &mut [u8; 17408],
-    turn: &mut [u8; 17408],
-    frame: &mut [u8; 1088],
+    memory: &mut [u8; area::MEMORY_OCTETS],
+    assembly: &mut [u8; area::MEMORY_OCTETS],
+    turn: &mut [u8; area::MEMORY_OCTETS],
+    frame: &mut [u8; frame::OUTPUT_OCTETS],
 ) -> Going
     ensures { λ r. ⌜ held (r .station) (r .line) (now (stored .exit)) (now (memory .exit)) (now (assembly .exit)) (now (turn .exit)) (now (frame .exit)) ≡ after (held station line (now (stored .entry)) (now (memory .entry)) (now (assembly .entry)) (now (turn .entry)) (now (frame .entry))) (take (r .at) (now (part .exit))) ⌝ }
     ensures { λ r. ⌜ Arrived (now (part .exit)) (r .at) (r .on) ⌝ }
@@ -125,10 +126,10 @@ fn replay_some(
 fn replay_all(
     part: &mut [u8],
     stored: &mut [u8; 34823],
-    memory: &mut [u8; 17408],
-    assembly: &mut [u8; 17408],
-    turn: &mut [u8; 17408],
-    frame: &mut [u8; 1088],
+    memory: &mut [u8; area::MEMORY_OCTETS],
+    assembly: &mut [u8; area::MEMORY_OCTETS],
+    turn: &mut [u8; area::MEMORY_OCTETS],
+    frame: &mut [u8; frame::OUTPUT_OCTETS],
 ) -> Going
     ensures { λ r. ⌜ ((input : List ℕ) × (held (r .station) (r .line) (now (stored .exit)) (now (memory .exit)) (now (assembly .exit)) (now (turn .exit)) (now (frame .exit)) ≡ after (held never fresh (now (stored .entry)) (now (memory .entry)) (now (assembly .entry)) (now (turn .entry)) (now (frame .entry))) input)) ⌝ }
 {
@@ -154,10 +155,10 @@ fn replay_input() -> Going
 {
     let mut part = io::large_buffer();
     let mut stored = [0u8; 34823];
-    let mut memory = [0u8; 17408];
-    let mut assembly = [0u8; 17408];
-    let mut turn = [0u8; 17408];
-    let mut frame = [0u8; 1088];
+    let mut memory = [0u8; area::MEMORY_OCTETS];
+    let mut assembly = [0u8; area::MEMORY_OCTETS];
+    let mut turn = [0u8; area::MEMORY_OCTETS];
+    let mut frame = [0u8; frame::OUTPUT_OCTETS];
     replay_all(
         &mut part,
         &mut stored,
@@ -179,6 +180,6 @@ pub fn run() {
     let going = replay_input();
     let rest = going.line;
     let mut text = [0u8; 40];
-    let end = replay_lines::put_rest(rest, &mut text);
+    let end = replay_end::put_rest(rest, &mut text);
     write_rest(rest, &text[0..end]);
 }

@@ -11,16 +11,17 @@ use lib.Seq.{take-all}
 use borrow.Author.Tests.{leb-true, le-leb, lt-leb}
 use Rattle.commands.specs.Commands.{stop, ask, panel, state, hear, hearSpace, startSpace, tickSpace, pokeSpace, peekSpace, startBy, startOf, tickOf, peekOf, pokeOf, kept as keptOf, hearOf as hearCommand, shortOf, commandOf, commandIn}
 use Rattle.commands.specs.Kept.{part-stored, heard-kept}
-use Rattle.words.specs.OctetLaws.{octets-most, octets-first}
-use Rattle.words.specs.Octets.{octetsOf}
+use Rattle.text_hexadecimal.specs.OctetLaws.{octets-most, octets-first}
+use Rattle.text_hexadecimal.specs.Octets.{octetsOf}
 use Rattle.commands.specs.Whole.{line-read}
-use Rattle.words.specs.WordLaws.{word-at, word-length, no-words, end-place}
+use Rattle.text_reading.specs.MarkLaws.{before-most}
+use Rattle.text_reading.specs.PartLaws.{part-at, part-length, no-parts, end-place}
+use Rattle.text_reading.specs.Parts.{endOf}
 use Rattle.text.specs.Lines.{space}
-use Rattle.words.specs.Words.{begins, same, wordsBehind, numberIn, endOf}
+use Rattle.words.specs.Words.{begins, same, wordsBehind, numberIn}
 use Rattle.commands.specs.declared.Command.{Command}
 use Rattle.commands.specs.declared.Command.the-variants.{Start, Stop, Tick, Hear, Ask, Panel, Peek, State, Bad}
 use Rattle.input_line.specs.Gathering.{longest, fresh, pushedAll, bufferAll}
-use Rattle.settle_input.specs.Form.{before-most}
 use Rattle.station.specs.Rules.Hearing.{hearOf}
 use Rattle.replaying.specs.Cut.{hear-cut}
 use Rattle.replaying.specs.Replaying.{Kept, heard, poked, digitsIn, performed}
@@ -59,28 +60,28 @@ countIn line = length (octetsOf (getD (wordsBehind line 4) 1 []))
 
 -- they are a word of the line
 poke-room : (line : List ℕ) → 0 < countIn line → digitsAt line + 2 * countIn line ≤ length line
-poke-room line some = by (decLt 4 (length line)) (decLt (endOf line 4) (length line))
+poke-room line some = by (decLt 4 (length line)) (decLt (endOf space line 4) (length line))
   where
-    second : length (getD (wordsBehind line (endOf line 4)) 0 []) ≡ length (getD (wordsBehind line 4) 1 [])
-    second = ap length (word-at line 4 1)
+    second : length (getD (wordsBehind line (endOf space line 4)) 0 []) ≡ length (getD (wordsBehind line 4) 1 [])
+    second = ap length (part-at space line 4 1)
 
-    by : Dec (4 < length line) → Dec (endOf line 4 < length line) → digitsAt line + 2 * countIn line ≤ length line
+    by : Dec (4 < length line) → Dec (endOf space line 4 < length line) → digitsAt line + 2 * countIn line ≤ length line
     by (yes h) (yes more) =
         omega (
           arith,
-          end-place line 4 h,
-          word-length line 4 h,
-          word-length line (endOf line 4) more,
-          before-most space (drop (endOf line 4 + 1) line),
-          length-drop (endOf line 4 + 1) line,
+          end-place space line 4 h,
+          part-length space line 4 h,
+          part-length space line (endOf space line 4) more,
+          before-most space (drop (endOf space line 4 + 1) line),
+          length-drop (endOf space line 4 + 1) line,
           octets-most (getD (wordsBehind line 4) 1 []),
           second,
         )
     by (yes h) (no all) =
-        let none = ap (λ (words : List (List ℕ)). length (getD words 0 [])) (no-words line (endOf line 4) (omega arith)) in
+        let none = ap (λ (words : List (List ℕ)). length (getD words 0 [])) (no-parts space line (endOf space line 4) (omega arith)) in
         absurd (omega (arith, octets-most (getD (wordsBehind line 4) 1 []), second))
     by (no short) more =
-        let none = ap (λ (words : List (List ℕ)). length (getD words 1 [])) (no-words line 4 (omega arith)) in
+        let none = ap (λ (words : List (List ℕ)). length (getD words 1 [])) (no-parts space line 4 (omega arith)) in
         absurd (omega (arith, octets-most (getD (wordsBehind line 4) 1 [])))
 
 module _ (line buffer : List ℕ) (kept : Kept) (full : length buffer ≡ longest) where

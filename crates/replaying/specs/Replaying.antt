@@ -2,12 +2,14 @@
 use Prim.Native.Nat.{ℕ, zero, suc, _-_, _*_}
 use mathlib.Core.List.{List}
 use lib.ListN.{length, take, drop}
-use Rattle.words.specs.Octets.{octetsOf}
+use Rattle.text_hexadecimal.specs.Octets.{octetsOf}
 use Rattle.commands.specs.declared.Command.{Command}
 use Rattle.commands.specs.declared.Command.the-variants.{Start, Stop, Tick, Hear, Ask, Panel, Poke, Peek, State, Bad}
 use Rattle.copying.specs.Pasted.{pasted}
-use Rattle.replies.specs.Replies.{doneText, badText, switchedText, tickedText, heardText, askedText, panelText, octetsText}
+use Rattle.replies.specs.Replies.{switchedText, heardText, askedText}
+use Rattle.reply_shown.specs.Shown.{panelText, octetsText}
 use Rattle.reply_state.specs.State.{stateText}
+use Rattle.reply_words.specs.Answers.{doneText, badText, tickedText}
 use Rattle.station.specs.Rules.Asking.{Asking, askOf}
 use Rattle.station.specs.Rules.Hearing.{Hearing, hearOf}
 use Rattle.station.specs.Rules.Showing.{figureShown}

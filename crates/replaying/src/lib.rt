@@ -1,19 +1,18 @@
 // What a command does to a station and its buffers, and the line that is answered, which is written in front of a lent answer.
-mod parts;
-
 use commands::Command;
 use commands::Peek;
-use parts::digits_of;
 use reply_parts::part_of;
 use starting::Switching;
 use station::Station;
 use ticking::Ticking;
 ghost use mathlib.Core.Path.{_≡_};
 ghost use lib.ListN.{length, take, drop};
-ghost use Rattle.words.specs.Octets.{octetsOf};
+ghost use Rattle.text_hexadecimal.specs.Octets.{octetsOf};
 ghost use Rattle.copying.specs.Pasted.{pasted};
-ghost use Rattle.replaying.specs.Replaying.{ticksOf, pokedBy, keeping, performed};
-ghost use Rattle.replies.specs.Replies.{doneText, switchedText, tickedText, heardText, askedText, octetsText};
+ghost use Rattle.replaying.specs.Replaying.{ticksOf, pokedBy, digitsIn, keeping, performed};
+ghost use Rattle.replies.specs.Replies.{switchedText, heardText, askedText};
+ghost use Rattle.reply_shown.specs.Shown.{octetsText};
+ghost use Rattle.reply_words.specs.Answers.{doneText, tickedText};
 ghost use Rattle.station.specs.Rules.Asking.{askOf};
 ghost use Rattle.station.specs.Rules.Hearing.{hearOf};
 
@@ -57,7 +56,7 @@ fn tick(station: Station, count: u32, answer: &mut [u8; 40000]) -> Reply
     let ticking = tick_many(station, count);
     let station = ticking.station;
     let done = ticking.answer;
-    let length = replies::put_ticked(done, answer);
+    let length = reply_words::put_ticked(done, answer);
     Reply { station, length }
 }
 
@@ -65,8 +64,8 @@ fn tick(station: Station, count: u32, answer: &mut [u8; 40000]) -> Reply
 fn hear(
     station: Station,
     digits: &[u8],
-    memory: &mut [u8; 17408],
-    assembly: &mut [u8; 17408],
+    memory: &mut [u8; area::MEMORY_OCTETS],
+    assembly: &mut [u8; area::MEMORY_OCTETS],
     answer: &mut [u8; 40000],
 ) -> Reply
     ensures { λ r. ⌜ r .station ≡ hearOf station (octetsOf (now (digits .entry))) (now (memory .entry)) (now (assembly .entry)) .station ⌝ }
@@ -76,7 +75,7 @@ fn hear(
     ensures { λ _. ⌜ now (answer .exit) ≡ pasted (now (answer .entry)) 0 (heardText (hearOf station (octetsOf (now (digits .entry))) (now (memory .entry)) (now (assembly .entry)) .answer)) ⌝ }
 {
     let mut octets = [0u8; 1121];
-    let count = words::unspell(digits, &mut octets);
+    let count = text_hexadecimal::unspell(digits, &mut octets);
     let hearing = hearing::hear(station, &octets[0..count], memory, assembly);
     let station = hearing.station;
     let heard = hearing.answer;
@@ -86,9 +85,9 @@ fn hear(
 
 fn ask(
     station: Station,
-    memory: &[u8; 17408],
-    turn: &mut [u8; 17408],
-    frame: &mut [u8; 1088],
+    memory: &[u8; area::MEMORY_OCTETS],
+    turn: &mut [u8; area::MEMORY_OCTETS],
+    frame: &mut [u8; frame::OUTPUT_OCTETS],
     answer: &mut [u8; 40000],
 ) -> Reply
     ensures { λ r. ⌜ r .station ≡ askOf station (now (memory .entry)) (now (turn .entry)) (now (frame .entry)) .station ⌝ }
@@ -109,24 +108,29 @@ fn write(at: usize, digits: &[u8], memory: &mut [u8])
     ensures { λ _. ⌜ now (memory .exit) ≡ pokedBy (now (memory .entry)) at (octetsOf (now (digits .entry))) ⌝ }
 {
     if at < memory.len() {
-        words::unspell(digits, &mut memory[at..]);
+        text_hexadecimal::unspell(digits, &mut memory[at..]);
     }
 }
 
-fn poke(at: usize, digits: &[u8], memory: &mut [u8; 17408], answer: &mut [u8; 40000]) -> usize
+fn poke(
+    at: usize,
+    digits: &[u8],
+    memory: &mut [u8; area::MEMORY_OCTETS],
+    answer: &mut [u8; 40000],
+) -> usize
     ensures { λ _. ⌜ now (memory .exit) ≡ pokedBy (now (memory .entry)) at (octetsOf (now (digits .entry))) ⌝ }
     ensures { λ r. ⌜ r ≡ length doneText ⌝ }
     ensures { λ _. ⌜ now (answer .exit) ≡ pasted (now (answer .entry)) 0 doneText ⌝ }
 {
     write(at, digits, memory);
-    replies::put_done(answer)
+    reply_words::put_done(answer)
 }
 
-fn peek(peek: Peek, memory: &[u8; 17408], answer: &mut [u8; 40000]) -> usize
+fn peek(peek: Peek, memory: &[u8; area::MEMORY_OCTETS], answer: &mut [u8; 40000]) -> usize
     ensures { λ r. ⌜ r ≡ length (octetsText (take (peek .length) (drop (peek .at) (now (memory .entry))))) ⌝ }
     ensures { λ _. ⌜ now (answer .exit) ≡ pasted (now (answer .entry)) 0 (octetsText (take (peek .length) (drop (peek .at) (now (memory .entry))))) ⌝ }
 {
-    replies::put_octets(part_of(memory, peek.at, peek.length), answer)
+    reply_shown::put_octets(part_of(memory, peek.at, peek.length), answer)
 }
 
 fn kept(station: Station, count: usize) -> Reply
@@ -139,15 +143,25 @@ fn kept(station: Station, count: usize) -> Reply
     }
 }
 
+// The digits from `at` on, at most two for each of `count` octets.
+fn digits_of(line: &[u8], at: usize, count: usize) -> &[u8]
+    ensures { λ r. ⌜ now r ≡ digitsIn (now (line .entry)) at count ⌝ }
+{
+    if line.len() / 2 < count {
+        return part_of(line, at, line.len());
+    }
+    part_of(line, at, 2 * count)
+}
+
 // What a command does. The line that it came in, or the front of that line, is where its digits stand.
 pub fn perform(
     command: Command,
     line: &[u8],
     station: Station,
-    memory: &mut [u8; 17408],
-    assembly: &mut [u8; 17408],
-    turn: &mut [u8; 17408],
-    frame: &mut [u8; 1088],
+    memory: &mut [u8; area::MEMORY_OCTETS],
+    assembly: &mut [u8; area::MEMORY_OCTETS],
+    turn: &mut [u8; area::MEMORY_OCTETS],
+    frame: &mut [u8; frame::OUTPUT_OCTETS],
     answer: &mut [u8; 40000],
 ) -> Reply
     ensures { λ r. ⌜ r .station ≡ performed command (now (line .entry)) (keeping station (now (memory .entry)) (now (assembly .entry)) (now (turn .entry)) (now (frame .entry))) .kept .station ⌝ }
@@ -170,7 +184,10 @@ pub fn perform(
             answer,
         ),
         Command::Ask => ask(station, memory, turn, frame, answer),
-        Command::Panel => kept(station, replies::put_panel(states::show(station), answer)),
+        Command::Panel => kept(
+            station,
+            reply_shown::put_panel(states::show(station), answer),
+        ),
         Command::Poke(octets) => kept(
             station,
             poke(
@@ -182,6 +199,6 @@ pub fn perform(
         ),
         Command::Peek(octets) => kept(station, peek(octets, memory, answer)),
         Command::State => kept(station, reply_state::put_state(station, answer)),
-        Command::Bad => kept(station, replies::put_bad(answer)),
+        Command::Bad => kept(station, reply_words::put_bad(answer)),
     }
 }

@@ -5,5 +5,5 @@ use libc::STDIN_FILENO;
 fn main() {
     let mut input = io::buffer();
     let count = io::read_full(STDIN_FILENO, &mut input);
-    settle_write::write_rest(settle_print::begin(&input[..count]));
+    settle_write::write_rest(settle_rest::begin(&input[..count]));
 }

@@ -15,8 +15,8 @@ fn run_case(index: usize) {
     let mut input = io::buffer();
     let count = io::read_full(file, &mut input);
     libc::close(file);
-    let printing = settle_print::begin(&input[..count]);
-    settle_write::write_rest(settle_print::shorten(printing, 6));
+    let printing = settle_rest::begin(&input[..count]);
+    settle_write::write_rest(settle_rest::shorten(printing, 6));
 }
 
 fn main() {

@@ -1,30 +1,23 @@
 -- Laws of the form of a line, for code that works on parts of it. Assumes nothing.
 use mathlib.Core.Path.{_≡_, refl, ap, sym, _∙_}
-use mathlib.Core.Bool.{Bool, true, false, cond, _&&_}
+use mathlib.Core.Bool.{cond, _&&_}
 use mathlib.Core.List.{List, [], _∷_}
 use Prim.Native.Nat.{ℕ, suc, _+_, _≤_, _<_}
 use native.Mathlib.Omega.{arith}
 use native.Mathlib.Numerals.{add-one}
 use native.Mathlib.Decide.{decLt}
 use borrow.Author.Tests.{lt-ltb, le-ltb}
-use lib.Dec.{eqb, ltb}
+use lib.Dec.{ltb}
 use lib.ListN.{length, take, length-take}
 use lib.Seq.{take-all}
 use Rattle.text.specs.Lines.{comma, lineFeed}
-use Rattle.settle_input.specs.Input.{numberIn, before, upTo, behind, noEntry, entryOf, firstLine}
+use Rattle.text_reading.specs.MarkLaws.{before-most}
+use Rattle.text_reading.specs.Marks.{before, upTo, behind}
+use Rattle.settle_input.specs.Input.{numberIn, noEntry, entryOf, firstLine}
 
 pub empty-list : (l : List ℕ) → length l ≤ 0 → l ≡ []
 empty-list [] h = refl
 empty-list (x ∷ l) h = absurd (omega arith)
-
--- no more octets stand before a mark than there are
-pub before-most : (mark : ℕ) (octets : List ℕ) → before mark octets ≤ length octets
-before-most mark [] = omega arith
-before-most mark (octet ∷ octets) = by (eqb octet mark) (before-most mark octets)
-  where
-    by : (t : Bool) → before mark octets ≤ length octets → cond t 0 (suc (before mark octets)) ≤ suc (length octets)
-    by true h = omega arith
-    by false h = omega arith
 
 pub line-with-end : (octets : List ℕ) → before lineFeed octets < length octets → before lineFeed octets + 1 ≡ length (firstLine octets)
 line-with-end octets h = sym (length-take (suc (before lineFeed octets)) octets ∙ omega arith)

@@ -1,10 +1,13 @@
 -- Reading the input of `settle`. Words in quotes are paper 01's, section "settle".
-use mathlib.Core.Bool.{Bool, cond, _&&_}
+use mathlib.Core.Bool.{cond, _&&_}
 use mathlib.Core.List.{List, [], _∷_, map}
-use Prim.Native.Nat.{ℕ, suc, _+_, _-_, _*_}
-use lib.Dec.{eqb, leb, ltb}
-use lib.ListN.{length, getD, take, drop, set, replicate}
+use Prim.Native.Nat.{ℕ, suc, _+_}
+use lib.Dec.{eqb, ltb}
+use lib.ListN.{length, take, drop, set, replicate}
 use Rattle.text.specs.Lines.{comma, lineFeed}
+use Rattle.text_reading.specs.Marks.{before, upTo, behind, has}
+use Rattle.text_reading.specs.Parts.{inFront}
+use Rattle.text_reading.specs.Values.{decimalIn, numberOr}
 use Rattle.views.specs.Views.{member}
 use Rattle.views.specs.declared.Ring.{Ring}
 use Rattle.settle_input.specs.declared.Entry.{Entry}
@@ -13,46 +16,15 @@ use Rattle.settle_input.specs.declared.Reading.{Reading}
 use Rattle.settle_input.specs.declared.Verdict.the-variants as verdicts
 use Rattle.settle_input.specs.declared.Line.{Line}
 
--- an octet in front of the first of some lines
-abbrev pub inFront : ℕ → List (List ℕ) → List (List ℕ)
-inFront octet [] = (octet ∷ []) ∷ []
-inFront octet (line ∷ lines) = (octet ∷ line) ∷ lines
-
 -- "lines .., each ending in a line feed": the input's lines, each with its line feed. What stands behind the last line feed is one
 -- more line, without a line feed.
 unfoldable pub linesOf : List ℕ → List (List ℕ)
 linesOf [] = []
 linesOf (octet ∷ octets) = cond (eqb octet lineFeed) ((octet ∷ []) ∷ linesOf octets) (inFront octet (linesOf octets))
 
-abbrev pub isDigit : ℕ → Bool
-isDigit octet = leb 0x30 octet && leb octet 0x39
-
--- the value of decimal digits behind a value so far, or 0 where an octet is no digit or the value is above 254
-abbrev pub valueOn : ℕ → List ℕ → ℕ
-valueOn value [] = value
-valueOn value (octet ∷ octets) =
-    cond (isDigit octet)
-    (cond (leb (value * 10 + (octet - 0x30)) 254) (valueOn (value * 10 + (octet - 0x30)) octets) 0)
-    0
-
 -- "two numbers of 1 to 254", "no leading zeros": the number that the octets are, or 0 if they are no such number
 abbrev pub numberIn : List ℕ → ℕ
-numberIn octets = cond (eqb (getD octets 0 0x30) 0x30) 0 (valueOn 0 octets)
-
--- the number of octets before the first mark, or of all where there is none
-abbrev pub before : ℕ → List ℕ → ℕ
-before mark [] = 0
-before mark (octet ∷ octets) = cond (eqb octet mark) 0 (suc (before mark octets))
-
--- what stands before the first mark, and behind it
-abbrev pub upTo : ℕ → List ℕ → List ℕ
-upTo mark octets = take (before mark octets) octets
-
-abbrev pub behind : ℕ → List ℕ → List ℕ
-behind mark octets = drop (before mark octets + 1) octets
-
-abbrev pub has : ℕ → List ℕ → Bool
-has mark octets = ltb (before mark octets) (length octets)
+numberIn octets = numberOr 0 (decimalIn 254 octets)
 
 abbrev pub noEntry : Entry
 noEntry = record { station = 0; view = 0 }

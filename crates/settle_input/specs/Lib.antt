@@ -1,7 +1,6 @@
 -- The definitions of this crate, and what is proved of them.
 pub mod Input
 -- Theorems.
-pub mod Digits
 pub mod Form
 pub mod Lines
 pub mod Short

@@ -9,7 +9,9 @@ use lib.Dec.{eqb}
 use lib.ListN.{length, take, drop, set, length-drop}
 use lib.Seq.{drop-drop}
 use Rattle.text.specs.Lines.{lineFeed}
-use Rattle.settle_input.specs.Input.{inFront, linesOf, before, entryOf, firstLine, formsFrom, noRing}
+use Rattle.text_reading.specs.Marks.{before}
+use Rattle.text_reading.specs.Parts.{inFront}
+use Rattle.settle_input.specs.Input.{linesOf, entryOf, firstLine, formsFrom, noRing}
 
 -- some octets are their first line, and the lines of what stands behind it
 pub lines-first : (octets : List ℕ) → 0 < length octets

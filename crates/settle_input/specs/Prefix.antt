@@ -9,10 +9,12 @@ use borrow.Author.Tests.{lt-ltb, le-ltb, ne-eqb}
 use lib.ListN.{length, take, drop, set, replicate, length-take, length-drop}
 use lib.Seq.{take-all, take-take, take-nil}
 use Rattle.text.specs.Lines.{lineFeed}
-use Rattle.settle_input.specs.Input.{linesOf, before, entryOf, formsFrom, formsOf, readOf, bad, firstLine}
+use Rattle.text_reading.specs.MarkLaws.{before-front, before-whole}
+use Rattle.text_reading.specs.Marks.{before}
+use Rattle.settle_input.specs.Input.{linesOf, entryOf, formsFrom, formsOf, readOf, bad, firstLine}
 use Rattle.settle_input.specs.Form.{empty-list, line-with-end}
 use Rattle.settle_input.specs.Lines.{lines-first}
-use Rattle.settle_input.specs.Short.{short-line, station-most, before-front, before-whole}
+use Rattle.settle_input.specs.Short.{short-line, station-most}
 
 -- what is left of the front of a list
 drop-front : (k j : ℕ) (l : List ℕ) → drop k (take (k + j) l) ≡ take j (drop k l)

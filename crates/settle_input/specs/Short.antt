@@ -1,76 +1,44 @@
 -- A line that has an entry is short: at most 8 octets, the last of them its line feed. Assumes nothing.
 use mathlib.Core.Path.{_≡_, refl, ap}
-use mathlib.Core.Bool.{Bool, true, false, cond, _&&_}
-use mathlib.Core.List.{List, [], _∷_}
-use Prim.Native.Nat.{ℕ, zero, suc, _+_, _-_, _*_, _≤_, _<_}
-use native.Mathlib.Decide.{decLe}
+use mathlib.Core.Bool.{Bool, true, false, _&&_}
+use mathlib.Core.List.{List}
+use Prim.Native.Nat.{ℕ, suc, _+_, _≤_, _<_}
+use native.Mathlib.Decide.{decLe, ℕ-discrete}
 use native.Mathlib.Omega.{arith}
-use borrow.Author.Tests.{leb-true, ltb-true, eqb-false}
-use lib.Dec.{eqb, leb, ltb}
-use lib.ListN.{length, getD, take, drop, length-take, length-drop}
+use borrow.Author.Tests.{ltb-true}
+use lib.Dec.{ltb}
+use lib.ListN.{length, length-take, length-drop}
 use Rattle.laws.specs.Tests.{first, second}
 use Rattle.text.specs.Lines.{comma, lineFeed}
-use Rattle.settle_input.specs.Input.{isDigit, valueOn, numberIn, before, upTo, behind, has, entryOf, firstLine}
-use Rattle.settle_input.specs.Digits.{digit-range}
-use Rattle.settle_input.specs.Form.{before-most}
+use Rattle.text_reading.specs.MarkLaws.{before-most, before-behind, before-front}
+use Rattle.text_reading.specs.Marks.{before, upTo, behind, has}
+use Rattle.text_reading.specs.Told.{number-most, number-told, few-digits}
+use Rattle.text_reading.specs.Values.{decimalIn, numberOr}
+use Rattle.text_reading.specs.declared.Value.{Value}
+use Rattle.text_reading.specs.declared.Value.the-variants.{Number, Nothing}
+use Rattle.settle_input.specs.Input.{numberIn, entryOf, firstLine}
 
--- digits that have a value: the first is a digit, the value with it is at most 254, and the others go on from it
-pub value-step : (value octet : ℕ) (octets : List ℕ) → ¬ (valueOn value (octet ∷ octets) ≡ 0)
-    → (isDigit octet ≡ true) × (value * 10 + (octet - 0x30) ≤ 254) × (valueOn (value * 10 + (octet - 0x30)) octets ≡ 0 → ⊥)
-value-step value octet octets n = go (isDigit octet) (leb (value * 10 + (octet - 0x30)) 254) refl refl
+-- octets that are read as a number of 1 to 254 are just that number, and at most three
+pub number-in : (octets : List ℕ) → ¬ (numberIn octets ≡ 0) → decimalIn 254 octets ≡ Number (numberIn octets)
+number-in octets n = go (decimalIn 254 octets) n
   where
-    go : (s t : Bool) → isDigit octet ≡ s → leb (value * 10 + (octet - 0x30)) 254 ≡ t
-        → (isDigit octet ≡ true) × (value * 10 + (octet - 0x30) ≤ 254) × (valueOn (value * 10 + (octet - 0x30)) octets ≡ 0 → ⊥)
-    go true true d l = (d, leb-true _ _ l, λ z. n (rw (d, l) z))
-    go true false d l = absurd (n (rw (d, l)))
-    go false t d l = absurd (n (rw d))
+    go : (read : Value) → ¬ (numberOr 0 read ≡ 0) → read ≡ Number (numberOr 0 read)
+    go (Number number) n = refl
+    go Nothing n = absurd (n refl)
 
--- a value of 26 or more has no further digit, one of 3 or more at most one, and one of 1 or more at most two
-last-digit : (value : ℕ) (octets : List ℕ) → 26 ≤ value → ¬ (valueOn value octets ≡ 0) → length octets ≤ 0
-last-digit value [] h n = omega arith
-last-digit value (octet ∷ octets) h n = let (d, l, m) = value-step value octet octets n in absurd (omega arith)
-
-one-digit : (value : ℕ) (octets : List ℕ) → 3 ≤ value → ¬ (valueOn value octets ≡ 0) → length octets ≤ 1
-one-digit value [] h n = omega arith
-one-digit value (octet ∷ octets) h n =
-    let (d, l, m) = value-step value octet octets n in
-    omega (arith, last-digit (value * 10 + (octet - 0x30)) octets (omega arith) m)
-
-two-digits : (value : ℕ) (octets : List ℕ) → 1 ≤ value → ¬ (valueOn value octets ≡ 0) → length octets ≤ 2
-two-digits value [] h n = omega arith
-two-digits value (octet ∷ octets) h n =
-    let (d, l, m) = value-step value octet octets n in
-    omega (arith, one-digit (value * 10 + (octet - 0x30)) octets (omega arith) m)
-
--- a number of 1 to 254 without leading zeros has at most three digits
 number-short : (octets : List ℕ) → ¬ (numberIn octets ≡ 0) → length octets ≤ 3
-number-short [] n = omega arith
-number-short (octet ∷ octets) n = go (eqb octet 0x30) refl
-  where
-    go : (t : Bool) → eqb octet 0x30 ≡ t → suc (length octets) ≤ 3
-    go true e = absurd (n (rw e))
-    go false e =
-        let (d, l, m) = value-step 0 octet octets (λ z. n (rw e z)) in
-        let other : ¬ (octet ≡ 0x30) = eqb-false octet 0x30 e in
-        omega (arith, two-digits (0 * 10 + (octet - 0x30)) octets (omega (arith, digit-range octet d)) m)
+number-short octets n =
+    let read = number-in octets n in
+    let told = number-told 254 (numberIn octets) octets (omega arith) read in
+    let short = few-digits 10 (numberIn octets) 2 (omega (arith, number-most 254 (numberIn octets) octets read)) in
+    omega (arith, ap length told)
 
-value-most : (value : ℕ) (octets : List ℕ) → value ≤ 254 → valueOn value octets ≤ 254
-value-most value [] h = h
-value-most value (octet ∷ octets) h = go (isDigit octet) (leb (value * 10 + (octet - 0x30)) 254) refl (value-most (value * 10 + (octet - 0x30)) octets)
+number-low : (octets : List ℕ) → numberIn octets ≤ 254
+number-low octets = go (ℕ-discrete (numberIn octets) 0)
   where
-    go : (s t : Bool) → leb (value * 10 + (octet - 0x30)) 254 ≡ t
-        → (value * 10 + (octet - 0x30) ≤ 254 → valueOn (value * 10 + (octet - 0x30)) octets ≤ 254)
-        → cond s (cond t (valueOn (value * 10 + (octet - 0x30)) octets) 0) 0 ≤ 254
-    go true true l rest = rest (leb-true _ _ l)
-    go true false l rest = omega arith
-    go false t l rest = omega arith
-
-number-most : (octets : List ℕ) → numberIn octets ≤ 254
-number-most octets = go (eqb (getD octets 0 0x30) 0x30)
-  where
-    go : (t : Bool) → cond t 0 (valueOn 0 octets) ≤ 254
-    go true = omega arith
-    go false = value-most 0 octets (omega arith)
+    go : Dec (numberIn octets ≡ 0) → numberIn octets ≤ 254
+    go (yes z) = omega arith
+    go (no n) = number-most 254 (numberIn octets) octets (number-in octets n)
 
 -- what a line with an entry has
 pub record Formed (line : List ℕ) : Type 0 where
@@ -110,42 +78,7 @@ station-most line = go (decLe (entryOf line .station) 0)
   where
     go : Dec (entryOf line .station ≤ 0) → entryOf line .station ≤ 254
     go (yes h) = omega arith
-    go (no h) = omega (arith, formed line (λ z. omega arith) .station-is, number-most (upTo comma line))
-
--- a mark is found no later from a place behind the start
-pub before-behind : (mark k : ℕ) (octets : List ℕ) → before mark octets ≤ k + before mark (drop k octets)
-before-behind mark zero octets = omega arith
-before-behind mark (suc k) [] = omega arith
-before-behind mark (suc k) (octet ∷ octets) = go (eqb octet mark) (before-behind mark k octets)
-  where
-    go : (t : Bool) → before mark octets ≤ k + before mark (drop k octets)
-        → cond t 0 (suc (before mark octets)) ≤ suc k + before mark (drop k octets)
-    go true h = omega arith
-    go false h = omega arith
-
--- a mark is found in the front of octets where it is found in all
-pub before-front : (mark k : ℕ) (octets : List ℕ) → before mark octets < k → before mark (take k octets) ≡ before mark octets
-before-front mark zero octets h = absurd (omega arith)
-before-front mark (suc k) [] h = refl
-before-front mark (suc k) (octet ∷ octets) h = go (eqb octet mark) (before-front mark k octets) h
-  where
-    go : (t : Bool) → (before mark octets < k → before mark (take k octets) ≡ before mark octets)
-        → cond t 0 (suc (before mark octets)) < suc k → cond t 0 (suc (before mark (take k octets))) ≡ cond t 0 (suc (before mark octets))
-    go true rest h = refl
-    go false rest h = ap suc (rest (omega arith))
-
--- and the other way round
-pub before-whole : (mark k : ℕ) (octets : List ℕ) → before mark (take k octets) < length (take k octets)
-    → before mark octets ≡ before mark (take k octets)
-before-whole mark zero octets h = absurd (omega arith)
-before-whole mark (suc k) [] h = absurd (omega arith)
-before-whole mark (suc k) (octet ∷ octets) h = go (eqb octet mark) (before-whole mark k octets) h
-  where
-    go : (t : Bool) → (before mark (take k octets) < length (take k octets) → before mark octets ≡ before mark (take k octets))
-        → cond t 0 (suc (before mark (take k octets))) < suc (length (take k octets))
-        → cond t 0 (suc (before mark octets)) ≡ cond t 0 (suc (before mark (take k octets)))
-    go true rest h = refl
-    go false rest h = ap suc (rest (omega arith))
+    go (no h) = omega (arith, formed line (λ z. omega arith) .station-is, number-low (upTo comma line))
 
 -- the first line of octets, where it has an entry, ends within 8 octets
 pub short-line : (octets : List ℕ) → ¬ (entryOf (firstLine octets) .station ≡ 0)

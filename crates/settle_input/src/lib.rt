@@ -1,13 +1,12 @@
 // Reading the input of `settle`: the ring, or the number of the first bad line.
-mod fields;
-
-use fields::entry_of;
-use fields::line_length;
+use text_reading::Value;
+use text_reading::decimal_in;
+use text_reading::place_of;
 use views::Ring;
 ghost use mathlib.Core.Path.{_≡_};
 ghost use Prim.Native.Nat.{_<_};
 ghost use lib.ListN.{length};
-ghost use Rattle.settle_input.specs.Input.{noRing, lineAt, formsOf, bad, readOf};
+ghost use Rattle.settle_input.specs.Input.{numberIn, noEntry, entryOf, firstLine, noRing, lineAt, formsOf, bad, readOf};
 
 // What a line says; both are 0 where it has not the form of a line.
 pub struct Entry {
@@ -36,6 +35,59 @@ pub struct Reading {
 struct Line {
     entry: Entry,
     next: usize,
+}
+
+// The number that the octets are, or 0 if they are no number of 1 to 254 without leading zeros.
+fn number_in(octets: &[u8]) -> u8
+    ensures { λ r. ⌜ r ≡ numberIn (now (octets .entry)) ⌝ }
+{
+    match decimal_in(octets, 254) {
+        Value::Number(number) => number as u8,
+        Value::Nothing => 0,
+    }
+}
+
+// The length of the first line, its line feed included.
+fn line_length(octets: &[u8]) -> usize
+    ensures { λ r. ⌜ r ≡ length (firstLine (now (octets .entry))) ⌝ }
+{
+    let place = place_of(octets, b'\n');
+    if place < octets.len() {
+        place + 1
+    } else {
+        place
+    }
+}
+
+fn no_entry() -> Entry
+    ensures { λ r. ⌜ r ≡ noEntry ⌝ }
+{
+    Entry {
+        station: 0,
+        view: 0,
+    }
+}
+
+fn entry_of(line: &[u8]) -> Entry
+    ensures { λ r. ⌜ r ≡ entryOf (now (line .entry)) ⌝ }
+{
+    let comma = place_of(line, b',');
+    if line.len() <= comma {
+        return no_entry();
+    }
+    let start = comma + 1;
+    let rest = &line[start..];
+    let end = place_of(rest, b'\n');
+    if rest.len() <= end {
+        return no_entry();
+    }
+    let station = number_in(&line[0..comma]);
+    let view = number_in(&rest[0..end]);
+    if (0 < station) & (0 < view) {
+        Entry { station, view }
+    } else {
+        no_entry()
+    }
 }
 
 // The line that starts at an octet of the input.

@@ -11,9 +11,10 @@ use lib.ListN.{length, take, length-append}
 use lib.Seq.{take-at}
 use Rattle.laws.specs.Tests.{first, second}
 use Rattle.settle_output.specs.Output.{room}
-use Rattle.settle_print.specs.Parts.{restOf, isOver, nextLine, nextOf, linesLeft, fillFrom, filledOf}
+use Rattle.settle_rest.specs.Rest.{restOf, isOver}
+use Rattle.settle_rest.specs.declared.Printing.{Printing}
+use Rattle.settle_print.specs.Parts.{nextLine, nextOf, linesLeft, fillFrom, filledOf}
 use Rattle.settle_print.specs.Lines.{line-next, lines-next, lines-over, some-left, line-fits}
-use Rattle.settle_print.specs.declared.Printing.{Printing}
 use Rattle.settle_print.specs.declared.Filled.{Filled}
 
 -- where the filling of a buffer of so many octets stands, with the first `at` octets put

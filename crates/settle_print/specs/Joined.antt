@@ -6,25 +6,14 @@ use Prim.Native.Nat.{ℕ, zero, suc, _≤_}
 use native.Mathlib.Omega.{arith}
 use lib.ListN.{length, take}
 use Rattle.copying.specs.Laws.{front-read, length-pasted}
-use Rattle.settle_input.specs.Input.{readOf}
-use Rattle.settle_input.specs.declared.Verdict.{Verdict}
-use Rattle.settle_input.specs.declared.Verdict.the-variants as verdicts
 use Rattle.settle_output.specs.Output.{room}
-use Rattle.views.specs.declared.Ring.{Ring}
-use Rattle.settle_print.specs.Whole.{answerLines, outputOf}
-use Rattle.settle_print.specs.Parts.{restOf, isOver, stageOf, printingFor, printingOf, linesLeft, filledOf, partOf, bufferAfter}
+use Rattle.settle_rest.specs.Begun.{begun}
+use Rattle.settle_rest.specs.Rest.{restOf, isOver, printingOf}
+use Rattle.settle_rest.specs.Whole.{outputOf}
+use Rattle.settle_rest.specs.declared.Printing.{Printing}
+use Rattle.settle_print.specs.Parts.{linesLeft, filledOf, partOf, bufferAfter}
 use Rattle.settle_print.specs.Lines.{lines-over, none-left, rest-over}
 use Rattle.settle_print.specs.Filling.{filled, fill-no-more, fill-less}
-use Rattle.settle_print.specs.declared.Printing.{Printing}
-
--- all that is to be printed for an input is its output
-pub begun : (octets : List ℕ) → restOf (printingOf octets) ≡ outputOf octets
-unfolding restOf printingOf
-begun octets = by (readOf octets .verdict) (readOf octets .ring)
-  where
-    by : (verdict : Verdict) (ring : Ring) → restOf (printingFor (stageOf verdict) ring) ≡ answerLines verdict ring
-    by (verdicts.Bad number) ring = refl
-    by verdicts.Ring ring = refl
 
 module _ (size : ℕ) (p : Printing) where
   -- a part, and what is still to be printed behind it, are what was to be printed

@@ -7,11 +7,12 @@ use native.Mathlib.Omega.{arith}
 use Rattle.settle_run.specs.Run.{steppedOf}
 use Rattle.settle_output.specs.Output.{stepLine, settledLine, badLine}
 use Rattle.settle_output.specs.Room.{Fits, header-fits, step-fits, settled-fits, bad-fits}
-use Rattle.settle_print.specs.Whole.{stepLines}
-use Rattle.settle_print.specs.Parts.{restBy, restOf, overIn, isOver, runLine, runNext, lineBy, nextBy, nextLine, nextOf, linesBy, linesLeft}
-use Rattle.settle_print.specs.declared.Stage.{Stage}
-use Rattle.settle_print.specs.declared.Stage.the-variants.{Bad, Header, Run, Over}
-use Rattle.settle_print.specs.declared.Printing.{Printing}
+use Rattle.settle_rest.specs.Rest.{restBy, restOf, overIn, isOver}
+use Rattle.settle_rest.specs.Whole.{stepLines}
+use Rattle.settle_rest.specs.declared.Stage.{Stage}
+use Rattle.settle_rest.specs.declared.Stage.the-variants.{Bad, Header, Run, Over}
+use Rattle.settle_rest.specs.declared.Printing.{Printing}
+use Rattle.settle_print.specs.Parts.{runLine, runNext, lineBy, nextBy, nextLine, nextOf, linesBy, linesLeft}
 
 -- a run's next line stands in front of what is to be printed behind it
 run-line : (left : ℕ) (p : Printing) → runLine left p ++ restOf (runNext left p) ≡ stepLines left (p .ring) ++ settledLine (p .settled)

@@ -1,103 +1,18 @@
 // What `settle` prints, part by part in a lent buffer: each part is as many whole lines as the buffer takes.
-use settle_input::Verdict;
-use settle_run::Settled;
-use views::Ring;
+use settle_rest::Printing;
+use settle_rest::Stage;
+use settle_rest::is_over;
 ghost use mathlib.Core.Path.{_≡_};
 ghost use Prim.Native.Nat.{_≤_};
 ghost use lib.ListN.{length};
 ghost use Rattle.copying.specs.Pasted.{pasted};
 ghost use Rattle.settle_output.specs.Output.{room};
-ghost use Rattle.settle_print.specs.Parts.{stageOf, printingOf, isOver, ringAfter, shortened, behind, runLine, runNext, nextLine, nextOf, filledOf, bufferAfter};
-
-// What comes next: `bad,` and a line's number, the column names, the run, or nothing.
-pub enum Stage {
-    Bad(u32),
-    Header,
-    Run,
-    Over,
-}
-
-// What is still to be printed: in a run so many steps from this ring on, then the totals.
-pub struct Printing {
-    pub stage: Stage,
-    pub ring: Ring,
-    pub left: u64,
-    pub settled: Settled,
-}
+ghost use Rattle.settle_print.specs.Parts.{behind, runLine, runNext, nextLine, nextOf, filledOf, bufferAfter};
 
 // What is still to be printed behind the octets that were put in front of a buffer, and their number.
 pub struct Filled {
     pub printing: Printing,
     pub length: usize,
-}
-
-fn stage_of(verdict: Verdict) -> Stage
-    ensures { λ r. ⌜ r ≡ stageOf verdict ⌝ }
-{
-    match verdict {
-        Verdict::Bad(number) => Stage::Bad(number),
-        Verdict::Ring => Stage::Header,
-    }
-}
-
-// All that is printed for an input.
-pub fn begin(input: &[u8]) -> Printing
-    ensures { λ r. ⌜ r ≡ printingOf (now (input .entry)) ⌝ }
-{
-    let reading = settle_input::read_ring(input);
-    let verdict = reading.verdict;
-    let stage = stage_of(verdict);
-    let ring = reading.ring;
-    let settled = settle_run::settle(ring);
-    Printing {
-        stage,
-        ring,
-        left: settled.passes as u64 + settled.silences as u64,
-        settled,
-    }
-}
-
-pub fn is_over(printing: Printing) -> bool
-    ensures { λ r. ⌜ r ≡ isOver printing ⌝ }
-{
-    let stage = printing.stage;
-    match stage {
-        Stage::Bad(_) => false,
-        Stage::Header => false,
-        Stage::Run => false,
-        Stage::Over => true,
-    }
-}
-
-fn ring_after(ring: Ring, steps: u64) -> Ring
-    ensures { λ r. ⌜ r ≡ ringAfter steps ring ⌝ }
-{
-    let mut now = ring;
-    let mut left = steps;
-    while 0 < left {
-        let stepped = settle_run::step(now);
-        let moved = stepped.ring;
-        now = moved;
-        left -= 1;
-    }
-    now
-}
-
-// The same with only the last steps of its run, at most so many.
-pub fn shorten(printing: Printing, shown: u64) -> Printing
-    ensures { λ r. ⌜ r ≡ shortened shown printing ⌝ }
-{
-    let left = printing.left;
-    if left <= shown {
-        return printing;
-    }
-    let first = printing.ring;
-    let ring = ring_after(first, left - shown);
-    Printing {
-        ring,
-        left: shown,
-        ..printing
-    }
 }
 
 // The next line of a run: its next step, or its totals where no step is left.

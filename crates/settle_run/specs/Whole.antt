@@ -18,10 +18,12 @@ use Rattle.settling.specs.Runs.{Differing}
 use Rattle.settling.specs.Same.{Same, same-sym, same-run, same-differing, same-agreed, same-after}
 use Rattle.settling.specs.First.{FirstAgreement}
 use Rattle.settling.specs.Settling.{Settles, settles, square}
-use Rattle.views.specs.Views.{stationsOf, viewsOf, differentViews, unlistedIn, moved}
+use Rattle.settle_moves.specs.Moved.{moved-stations, moved-views, moved-proper}
+use Rattle.settle_moves.specs.Moves.{moved}
+use Rattle.views.specs.Views.{stationsOf, viewsOf, differentViews, unlistedIn}
 use Rattle.views.specs.Listed.{ascending}
 use Rattle.views.specs.Agreement.{one-agreed, agreed-one, some-view}
-use Rattle.views.specs.Proper.{Proper, proper, not-zero, moved-stations, moved-views, moved-proper}
+use Rattle.views.specs.Proper.{Proper, proper, not-zero}
 use Rattle.views.specs.declared.Ring.{Ring}
 use Rattle.settle_run.specs.Run.{eventIn, agreedIn, runFrom, isRing, limitOf, runOf, settledOf, Bounded}
 use Rattle.settle_run.specs.Holders.{step-legal}

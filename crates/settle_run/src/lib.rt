@@ -31,7 +31,7 @@ pub fn step(ring: Ring) -> Stepped
 {
     let holder = views::smallest_holder(ring);
     if holder == 0 {
-        let moved = views::silence_in(ring);
+        let moved = settle_moves::silence_in(ring);
         return Stepped {
             kind: Kind::Silence,
             from: 0,
@@ -39,8 +39,8 @@ pub fn step(ring: Ring) -> Stepped
             ring: moved,
         };
     }
-    let to = views::next_after(ring, holder);
-    let moved = views::pass_from(ring, holder);
+    let to = settle_moves::next_after(ring, holder);
+    let moved = settle_moves::pass_from(ring, holder);
     Stepped {
         kind: Kind::Pass,
         from: holder,

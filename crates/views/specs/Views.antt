@@ -1,10 +1,10 @@
--- The ring that `settle` works on, and what is looked up and moved in it. Words in quotes are paper 01's.
+-- The ring that `settle` works on, and what is looked up in it. Words in quotes are paper 01's.
 use mathlib.Core.Bool.{Bool, false, cond, not, _||_}
 use mathlib.Core.List.{List, [], _∷_, map}
-use Prim.Native.Nat.{ℕ, suc, min}
+use Prim.Native.Nat.{ℕ, suc}
 use lib.Dec.{eqb}
 use lib.ListN.{getD}
-use Rattle.settling.specs.Ring.{Views, Event, move}
+use Rattle.settling.specs.Ring.{Views}
 use Rattle.views.specs.declared.Ring.{Ring}
 
 -- the listed stations among views that start at the station `number`, in ascending order: those whose view is not 0
@@ -20,11 +20,6 @@ viewsOf ring station = getD (ring .views) station 0
 
 abbrev pub listed : Views → ℕ → Bool
 listed views number = not (eqb (views number) 0)
-
--- the first listed station among views that start at the station `number`, or `otherwise` where there is none
-abbrev pub firstListed : ℕ → List ℕ → ℕ → ℕ
-firstListed number [] otherwise = otherwise
-firstListed number (view ∷ views) otherwise = cond (eqb view 0) (firstListed (suc number) views otherwise) number
 
 -- "It holds when the view is its own number." The first station of the list that holds, or 0 if none does.
 abbrev pub smallestHolder : List ℕ → Views → ℕ
@@ -52,16 +47,3 @@ firstUnlisted views line (station ∷ rest) = cond (listed views (views station)
 
 abbrev pub unlistedIn : Ring → ℕ
 unlistedIn ring = firstUnlisted (viewsOf ring) 1 (stationsOf ring)
-
--- the view of a station after a token frame: "if the source is our view, the view becomes the destination. Otherwise the view becomes
--- the smaller of view and destination." 0, which stands for no station, stays 0.
-abbrev pub passedView : ℕ → ℕ → ℕ → ℕ
-passedView view from to = cond (eqb view 0) 0 (cond (eqb view from) to (min view to))
-
--- a view after an event in a ring of these stations; 0, which stands for no station, stays 0
-abbrev pub viewAfter : List ℕ → Event → ℕ → ℕ
-viewAfter ns event view = cond (eqb view 0) 0 (move ns (λ station. view) event 0)
-
--- the ring after an event
-abbrev pub moved : Ring → Event → Ring
-moved ring event = record { views = map (viewAfter (stationsOf ring) event) (ring .views) }

@@ -1,15 +1,13 @@
-// The words of a line: words as numbers in decimal, and as octets in hexadecimal.
-mod hexadecimal;
-
-pub use hexadecimal::is_hexadecimal;
-pub use hexadecimal::size_of;
-pub use hexadecimal::unspell;
+// The words of a line, and words as numbers in decimal.
+use text_reading::Value;
+use text_reading::decimal_in;
+use text_reading::place_from;
 ghost use mathlib.Core.Path.{_≡_};
 ghost use Prim.Native.Nat.{_+_};
 ghost use lib.ListN.{drop};
-ghost use Rattle.settle_input.specs.Input.{isDigit, before};
 ghost use Rattle.text.specs.Lines.{space};
-ghost use Rattle.words.specs.Words.{begins, same, valueOn, decimal, numberAt};
+ghost use Rattle.text_reading.specs.Marks.{before};
+ghost use Rattle.words.specs.Words.{begins, same, decimal, numberAt};
 
 // A word of a line as a number, and the place where it ends: its space, or the line's end.
 pub struct Number {
@@ -45,52 +43,17 @@ pub fn same(line: &[u8], word: &[u8]) -> bool
 pub fn word_end(line: &[u8], from: usize) -> usize
     ensures { λ r. ⌜ r ≡ from + before space (drop from (now (line .entry))) ⌝ }
 {
-    let mut place = from;
-    while place < line.len() {
-        if line[place] == b' ' {
-            return place;
-        }
-        place += 1;
-    }
-    place
+    place_from(line, b' ', from)
 }
 
-fn is_digit(octet: u8) -> bool
-    ensures { λ r. ⌜ r ≡ isDigit octet ⌝ }
-{
-    (b'0' <= octet) & (octet <= b'9')
-}
-
-// The value of decimal digits, or 1,000,001 where an octet is no digit or the value is above 1,000,000.
-fn value_of(octets: &[u8]) -> u32
-    ensures { λ r. ⌜ r ≡ valueOn 0 (now (octets .entry)) ⌝ }
-{
-    let mut value: u32 = 0;
-    let mut i = 0;
-    while i < octets.len() {
-        let octet = octets[i];
-        if !is_digit(octet) {
-            return 1000001;
-        }
-        value = value * 10 + (octet as u32 - 48);
-        if 1000000 < value {
-            return 1000001;
-        }
-        i += 1;
-    }
-    value
-}
-
+// The number that a word is, or 1,000,001 where it is none or is above 1,000,000.
 fn decimal(word: &[u8]) -> u32
     ensures { λ r. ⌜ r ≡ decimal (now (word .entry)) ⌝ }
 {
-    if word.len() == 0 {
-        return 1000001;
+    match decimal_in(word, 1000000) {
+        Value::Number(number) => number,
+        Value::Nothing => 1000001,
     }
-    if (word[0] == b'0') & (1 < word.len()) {
-        return 1000001;
-    }
-    value_of(word)
 }
 
 // The word behind the space at a place.

@@ -6,7 +6,9 @@ use Prim.Native.Nat.{ℕ, _+_}
 use lib.Dec.{leb}
 use lib.ListN.{length}
 use Rattle.commands.specs.Commands.{peekOf}
-use Rattle.words.specs.WordLaws.{read-at, ended-at}
+use Rattle.text.specs.Lines.{space}
+use Rattle.text_reading.specs.PartLaws.{ended-at}
+use Rattle.words.specs.WordLaws.{read-at}
 use Rattle.words.specs.Words.{numberIn, numberAt, wordsBehind}
 use Rattle.commands.specs.declared.Command.the-variants.{Peek, Bad}
 use Rattle.words.specs.declared.Number.{Number}
@@ -22,7 +24,7 @@ peek-read line a l p q =
     let s = read-at line 4 1 (a .end) l (r .1) q in
     rw (r .0, s .0)
     (ap (λ (test : Bool). cond (test && leb (numberIn words 0 + numberIn words 1) 17408) (Peek (record { at = numberIn words 0; length = numberIn words 1 })) Bad)
-    (sym (ap (leb (length line)) (s .1) ∙ ended-at line 4 2)))
+    (sym (ap (leb (length line)) (s .1) ∙ ended-at space line 4 2)))
 
 number-at-requires : tie.Need-number-at-requires
 number-at-requires c κs = search needs

@@ -10,12 +10,14 @@ use lib.ListN.{length, getD, drop, length-drop, List·getD-eq-default}
 use lib.Seq.{take-all}
 use borrow.Author.Tests.{le-leb, lt-leb, lt-ltb, leb-true}
 use Rattle.laws.specs.Lists.{to-end}
-use Rattle.settle_input.specs.Input.{before}
 use Rattle.commands.specs.Commands.{pokeBy, pokeOf}
-use Rattle.words.specs.Octets.{octetsOf}
-use Rattle.words.specs.WordLaws.{first-word, end-place, no-end, placeOf, word-at, ended-at, read-at}
+use Rattle.text_hexadecimal.specs.Octets.{octetsOf}
+use Rattle.text_reading.specs.Marks.{before}
+use Rattle.text_reading.specs.PartLaws.{first-part, end-place, no-end, placeOf, part-at, ended-at}
+use Rattle.text_reading.specs.Parts.{endOf}
+use Rattle.words.specs.WordLaws.{read-at}
 use Rattle.text.specs.Lines.{space}
-use Rattle.words.specs.Words.{numberIn, endOf, numberAt, wordsBehind}
+use Rattle.words.specs.Words.{numberIn, numberAt, wordsBehind}
 use Rattle.commands.specs.declared.Command.the-variants.{Poke, Bad}
 use Rattle.words.specs.declared.Number.{Number}
 use borrow.Author.Needs.{needs}
@@ -34,12 +36,12 @@ module _ (line : List ℕ) (number : Number) (e : number ≡ numberAt line 4) wh
   abbrev words : List (List ℕ)
   words = wordsBehind line 4
 
-  read : (number .value ≡ numberIn words 0) × (number .end ≡ placeOf line 4 1)
+  read : (number .value ≡ numberIn words 0) × (number .end ≡ placeOf space line 4 1)
   read = read-at line 4 0 4 number refl e
 
   one-word : length line ≤ number .end → pokeOf words ≡ Bad
   one-word h =
-      let few : leb (length words) 1 ≡ true = sym (ap (leb (length line)) (read .1) ∙ ended-at line 4 1) ∙ le-leb _ _ h in
+      let few : leb (length words) 1 ≡ true = sym (ap (leb (length line)) (read .1) ∙ ended-at space line 4 1) ∙ le-leb _ _ h in
       let none : getD words 1 [] ≡ [] = List·getD-eq-default words [] {n = 1} (leb-true (length words) 1 few) in
       ap₂ (λ (test : Bool) (word : List ℕ). cond test (pokeBy (numberIn words 0) (6 + length (getD words 0 [])) (length (octetsOf word))) Bad)
       (le-leb (length words) 2 (omega (arith, leb-true (length words) 1 few))) none
@@ -49,34 +51,34 @@ module _ (line : List ℕ) (number : Number) (e : number ≡ numberAt line 4) wh
     abbrev rest : List ℕ
     rest = drop (number .end + 1) line
 
-    second-end : placeOf line 4 2 ≡ number .end + 1 + before space rest
-    second-end = ap (endOf line) (sym (read .1)) ∙ end-place line (number .end) h
+    second-end : placeOf space line 4 2 ≡ number .end + 1 + before space rest
+    second-end = ap (endOf space line) (sym (read .1)) ∙ end-place space line (number .end) h
 
     more-words : number .end + 1 + before space rest < length line → pokeOf words ≡ Bad
     more-words more =
         ap (λ (test : Bool). cond test (pokeBy (numberIn words 0) (6 + length (getD words 0 [])) (length (octetsOf (getD words 1 [])))) Bad)
-        (sym (ap (leb (length line)) (sym second-end) ∙ ended-at line 4 2) ∙ lt-leb _ _ more)
+        (sym (ap (leb (length line)) (sym second-end) ∙ ended-at space line 4 2) ∙ lt-leb _ _ more)
 
     digits-place : 6 + length (getD words 0 []) ≡ number .end + 1
     digits-place = by (decLt 4 (length line))
       where
         by : Dec (4 < length line) → 6 + length (getD words 0 []) ≡ number .end + 1
         by (yes long) =
-            let end : endOf line 4 ≡ 4 + 1 + length (getD words 0 []) = ap (λ (test : Bool). cond test (4 + 1 + length (getD words 0 [])) 4) (lt-ltb 4 (length line) long) in
+            let end : endOf space line 4 ≡ 4 + 1 + length (getD words 0 []) = ap (λ (test : Bool). cond test (4 + 1 + length (getD words 0 [])) 4) (lt-ltb 4 (length line) long) in
             omega (arith, read .1, end)
-        by (no short) = absurd (omega (arith, read .1, no-end line 4 (omega arith)))
+        by (no short) = absurd (omega (arith, read .1, no-end space line 4 (omega arith)))
 
     second-word : length line ≤ number .end + 1 + before space rest → getD words 1 [] ≡ rest
     second-word last =
-        sym (word-at line 4 1)
+        sym (part-at space line 4 1)
         ∙ ap (λ (place : ℕ). getD (wordsBehind line place) 0 []) (sym (read .1))
-        ∙ first-word line (number .end) h
+        ∙ first-part space line (number .end) h
         ∙ take-all (before space rest) rest (omega (arith, length-drop (number .end + 1) line))
 
     two-words : length line ≤ number .end + 1 + before space rest → pokeOf words ≡ pokeBy (number .value) (number .end + 1) (length (octetsOf rest))
     two-words last =
         ap₂ (λ (test : Bool) (word : List ℕ). cond test (pokeBy (numberIn words 0) (6 + length (getD words 0 [])) (length (octetsOf word))) Bad)
-        (sym (ap (leb (length line)) (sym second-end) ∙ ended-at line 4 2) ∙ le-leb _ _ last) (second-word last)
+        (sym (ap (leb (length line)) (sym second-end) ∙ ended-at space line 4 2) ∙ le-leb _ _ last) (second-word last)
         ∙ ap₂ (λ (at digits : ℕ). pokeBy at digits (length (octetsOf rest))) (sym (read .0)) digits-place
 
 number-at-requires : tie.Need-number-at-requires

@@ -7,7 +7,9 @@ use lib.Dec.{leb}
 use lib.ListN.{length}
 use borrow.Author.Tests.{le-leb, lt-leb}
 use Rattle.commands.specs.Commands.{startBy, startOf}
-use Rattle.words.specs.WordLaws.{read-at, ended-at}
+use Rattle.text.specs.Lines.{space}
+use Rattle.text_reading.specs.PartLaws.{ended-at}
+use Rattle.words.specs.WordLaws.{read-at}
 use Rattle.words.specs.Words.{numberIn, numberAt, wordsBehind}
 use Rattle.commands.specs.declared.Command.the-variants.{Bad}
 use Rattle.words.specs.declared.Number.{Number}
@@ -29,7 +31,7 @@ start-read line n a s b t w p₀ p₁ p₂ p₃ p₄ p₅ =
     let r₅ = read-at line 5 5 (t .end) w (r₄ .1) p₅ in
     rw (r₀ .0, r₁ .0, r₂ .0, r₃ .0, r₄ .0, r₅ .0)
     (ap (λ (test : Bool). cond test (startBy (numberIn words 0) (numberIn words 1) (numberIn words 2) (numberIn words 3) (numberIn words 4) (numberIn words 5)) Bad)
-    (sym (ap (leb (length line)) (r₅ .1) ∙ ended-at line 5 6)))
+    (sym (ap (leb (length line)) (r₅ .1) ∙ ended-at space line 5 6)))
 
 number-at-requires : tie.Need-number-at-requires
 number-at-requires c κs = search needs

@@ -6,7 +6,9 @@ use Prim.Native.Nat.{ℕ}
 use lib.Dec.{leb}
 use lib.ListN.{length}
 use Rattle.commands.specs.Commands.{tickOf}
-use Rattle.words.specs.WordLaws.{read-at, ended-at}
+use Rattle.text.specs.Lines.{space}
+use Rattle.text_reading.specs.PartLaws.{ended-at}
+use Rattle.words.specs.WordLaws.{read-at}
 use Rattle.words.specs.Words.{numberIn, numberAt, wordsBehind}
 use Rattle.commands.specs.declared.Command.the-variants.{Tick, Bad}
 use Rattle.words.specs.declared.Number.{Number}
@@ -21,7 +23,7 @@ tick-read line k p =
     let r = read-at line 4 0 4 k refl p in
     rw (r .0)
     (ap (λ (test : Bool). cond (test && leb 1 (numberIn words 0) && leb (numberIn words 0) 1000000) (Tick (numberIn words 0)) Bad)
-    (sym (ap (leb (length line)) (r .1) ∙ ended-at line 4 1)))
+    (sym (ap (leb (length line)) (r .1) ∙ ended-at space line 4 1)))
 
 number-at-requires : tie.Need-number-at-requires
 number-at-requires c κs = search needs

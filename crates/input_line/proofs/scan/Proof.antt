@@ -1,38 +1,14 @@
 -- `input_line::scan` meets its contract.
 use mathlib.Core.Path.{_≡_, refl, ap, ap₂, sym, _∙_}
-use mathlib.Core.Bool.{true}
-use mathlib.Core.List.{List, [], _∷_}
-use Prim.Native.Nat.{ℕ, _+_, _-_, _<_}
-use native.Mathlib.Numerals.{add-one}
+use mathlib.Core.List.{List, []}
+use Prim.Native.Nat.{ℕ, _+_, _-_}
 use native.Mathlib.Omega.{arith}
-use lib.ListN.{length, drop, getD, set, drop-of-length-le}
-use lib.Seq.{drop-cons}
-use borrow.Author.Tests.{ne-eqb}
-use Rattle.text.specs.Lines.{lineFeed}
-use Rattle.input_line.specs.Gathering.{pushed, scanned, bufferScanned}
+use lib.ListN.{length, drop, getD, drop-of-length-le}
+use Rattle.text_scanning.specs.Scans.{scan-on, scan-ended, buffer-on, buffer-ended}
+use Rattle.input_line.specs.Gathering.{pushed, stored, made, scanned, bufferScanned}
 use Rattle.input_line.specs.declared.Line.{Line}
 use Rattle.input_line.proofs.scan.Statement.{statement}
 use Rattle.input_line.proofs.scan.Tie as tie
-
--- the octet at a place, and those behind it
-split : (text : List ℕ) (at : ℕ) → at < length text → drop at text ≡ getD text at 0 ∷ drop (at + 1) text
-split text at inside = drop-cons text at 0 inside ∙ ap (λ (k : ℕ). getD text at 0 ∷ drop k text) (sym (add-one at))
-
--- one octet that is no line feed
-module _ (line : Line) (buffer : List ℕ) (at : ℕ) (text : List ℕ) (inside : at < length text) (other : getD text at 0 ≡ lineFeed → ⊥) where
-  scan-on : scanned line at (drop at text) ≡ scanned (pushed line (getD text at 0)) (at + 1) (drop (at + 1) text)
-  scan-on = rw (split text at inside, ne-eqb (getD text at 0) lineFeed other)
-
-  buffer-on : bufferScanned line buffer (drop at text) ≡ bufferScanned (pushed line (getD text at 0)) (set buffer (line .count) (getD text at 0)) (drop (at + 1) text)
-  buffer-on = rw (split text at inside, ne-eqb (getD text at 0) lineFeed other)
-
--- a line feed
-module _ (line : Line) (buffer : List ℕ) (at : ℕ) (text : List ℕ) (inside : at < length text) (feed : getD text at 0 ≡ lineFeed) where
-  scan-ended : scanned line at (drop at text) ≡ record { line = line; next = at + 1; ended = true }
-  scan-ended = rw (split text at inside, feed)
-
-  buffer-ended : bufferScanned line buffer (drop at text) ≡ buffer
-  buffer-ended = rw (split text at inside, feed)
 
 abbrev Inv-loop : tie.InvT-loop
 Inv-loop text from buffer₀ gathered₀ next₀ buffer gathered next =
@@ -59,8 +35,10 @@ returns : tie.Need-returns Inv-loop μ-loop
 returns c =
     let text = c .before .before .before .before .before .before .args .text .now in
     let l = c .before .before .before .loop in
-    let inside = c .before .before .loop-test .taken in
-    (sym (scan-ended (l .gathered) (l .buffer) (l .next) text inside (c .if1 .taken)) ∙ l .inv .0, sym (buffer-ended (l .gathered) (l .buffer) (l .next) text inside (c .if1 .taken)) ∙ l .inv .1)
+    let inside = c .before .before .loop-test .taken in (
+      sym (scan-ended pushed made (l .gathered) (l .next) text inside (c .if1 .taken)) ∙ l .inv .0,
+      sym (buffer-ended pushed stored (l .gathered) (l .buffer) (l .next) text inside (c .if1 .taken)) ∙ l .inv .1,
+    )
 
 push-requires : tie.Need-push-requires Inv-loop μ-loop
 push-requires c κs = tt
@@ -78,9 +56,9 @@ loop-again c =
     let line = c .before .before .push .ensures .0 in
     let buffer = c .before .before .push .ensures .1 in (
       ap (λ (g : Line). scanned g (l .next + 1) (drop (l .next + 1) text)) line
-          ∙ sym (scan-on (l .gathered) (l .buffer) (l .next) text inside other) ∙ l .inv .0,
+          ∙ sym (scan-on pushed made (l .gathered) (l .next) text inside other) ∙ l .inv .0,
       ap₂ (λ (g : Line) (b : List ℕ). bufferScanned g b (drop (l .next + 1) text)) line buffer
-          ∙ sym (buffer-on (l .gathered) (l .buffer) (l .next) text inside other) ∙ l .inv .1,
+          ∙ sym (buffer-on pushed stored (l .gathered) (l .buffer) (l .next) text inside other) ∙ l .inv .1,
       c .before .before .push .kept .1 .1 .0 ∙ l .inv .2,
     )
 

@@ -5,7 +5,7 @@ use Prim.Native.Nat.{ℕ, _-_}
 use native.Mathlib.Omega.{arith}
 use native.Mathlib.Nat.{sub-zero}
 use lib.ListN.{length, take, replicate, length-take}
-use Rattle.words.specs.Octets.{octetsOf}
+use Rattle.text_hexadecimal.specs.Octets.{octetsOf}
 use Rattle.copying.specs.Laws.{front-read}
 use Rattle.copying.specs.Pasted.{pasted}
 use Rattle.replaying.specs.Cut.{hear-cut}

@@ -5,7 +5,7 @@ use Prim.Native.Nat.{ℕ}
 use native.Mathlib.Omega.{arith}
 use lib.ListN.{length, drop, length-take, length-drop}
 use Rattle.copying.specs.Pasted.{pasted}
-use Rattle.replies.specs.Replies.{octetsText}
+use Rattle.reply_shown.specs.Shown.{octetsText}
 use borrow.Author.Needs.{needs}
 use Rattle.replaying.proofs.peek.Statement.{statement}
 use Rattle.replaying.proofs.peek.Tie as tie

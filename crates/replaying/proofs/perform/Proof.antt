@@ -2,7 +2,8 @@
 use mathlib.Core.Path.{refl, ap, _∙_}
 use lib.ListN.{length}
 use Rattle.copying.specs.Pasted.{pasted}
-use Rattle.replies.specs.Replies.{switchedText, panelText}
+use Rattle.replies.specs.Replies.{switchedText}
+use Rattle.reply_shown.specs.Shown.{panelText}
 use borrow.Author.Needs.{needs}
 use Rattle.replaying.proofs.perform.Statement.{statement}
 use Rattle.replaying.proofs.perform.Tie as tie

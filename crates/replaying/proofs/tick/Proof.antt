@@ -2,7 +2,7 @@
 use mathlib.Core.Path.{ap, _∙_}
 use lib.ListN.{length}
 use Rattle.copying.specs.Pasted.{pasted}
-use Rattle.replies.specs.Replies.{tickedText}
+use Rattle.reply_words.specs.Answers.{tickedText}
 use borrow.Author.Needs.{needs}
 use Rattle.replaying.proofs.tick.Statement.{statement}
 use Rattle.replaying.proofs.tick.Tie as tie

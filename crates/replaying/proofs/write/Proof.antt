@@ -3,7 +3,7 @@ use mathlib.Core.Path.{_≡_, ap, sym, _∙_}
 use Prim.Native.Nat.{ℕ, _-_}
 use native.Mathlib.Omega.{arith}
 use lib.ListN.{length, take}
-use Rattle.words.specs.Octets.{octetsOf}
+use Rattle.text_hexadecimal.specs.Octets.{octetsOf}
 use Rattle.copying.specs.Laws.{paste-nothing}
 use Rattle.copying.specs.Pasted.{pasted}
 use borrow.Rule.Slice.PartMut.{putMid}

@@ -7,8 +7,7 @@ use lib.ListN.{length, length-take}
 use Rattle.copying.specs.Pasted.{pasted}
 use Rattle.reply_parts.specs.Hex.{hexOf}
 use Rattle.reply_parts.specs.Lines.{ended, spaced}
-use Rattle.replies.specs.Replies.{askedText}
-use Rattle.replies.specs.Words.{frameWord}
+use Rattle.replies.specs.Replies.{frameWord, askedText}
 use borrow.Author.Needs.{needs}
 use Rattle.replies.proofs.put_asked.Statement.{statement}
 use Rattle.replies.proofs.put_asked.Tie as tie

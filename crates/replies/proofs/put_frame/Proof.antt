@@ -6,7 +6,7 @@ use Rattle.reply_parts.specs.Hex.{hexOf}
 use Rattle.reply_parts.specs.HexLaws.{hex-length}
 use Rattle.reply_parts.specs.Lines.{ended, spaced}
 use Rattle.reply_parts.specs.Written.{then, in-front}
-use Rattle.replies.specs.Words.{frameWord}
+use Rattle.replies.specs.Replies.{frameWord}
 use borrow.Author.Needs.{needs}
 use Rattle.replies.proofs.put_frame.Statement.{statement}
 use Rattle.replies.proofs.put_frame.Tie as tie

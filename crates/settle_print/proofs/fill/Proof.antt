@@ -10,11 +10,12 @@ use borrow.Rule.Slice.PartMut.{putMid}
 use Rattle.copying.specs.Laws.{paste-nothing, paste-append, paste-part, length-pasted}
 use Rattle.copying.specs.Pasted.{pasted}
 use Rattle.settle_output.specs.Output.{room}
-use Rattle.settle_print.specs.Parts.{restOf, isOver, nextLine, linesLeft}
+use Rattle.settle_rest.specs.Rest.{restOf, isOver}
+use Rattle.settle_print.specs.Parts.{nextLine, linesLeft}
 use Rattle.settle_print.specs.Lines.{lines-next, line-fits}
 use Rattle.settle_print.specs.Filling.{Filling, goesOn, not-over, has-room, written, filling-start, filling-next, filling-over}
 use Rattle.settle_print.specs.declared.Filled.{Filled}
-use Rattle.settle_print.specs.declared.Printing.{Printing}
+use Rattle.settle_rest.specs.declared.Printing.{Printing}
 use borrow.Author.Needs.{needs}
 use Rattle.settle_print.proofs.fill.Statement.{statement}
 use Rattle.settle_print.proofs.fill.Tie as tie

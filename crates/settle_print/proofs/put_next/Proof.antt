@@ -8,8 +8,8 @@ use Rattle.copying.specs.Laws.{paste-nothing}
 use Rattle.copying.specs.Pasted.{pasted}
 use Rattle.settle_output.specs.Output.{room}
 use Rattle.settle_print.specs.Parts.{staged, behind, lineBy, nextBy, nextLine, nextOf}
-use Rattle.settle_print.specs.declared.Printing.{Printing}
-use Rattle.settle_print.specs.declared.Stage.{Stage}
+use Rattle.settle_rest.specs.declared.Printing.{Printing}
+use Rattle.settle_rest.specs.declared.Stage.{Stage}
 use borrow.Author.Needs.{needs}
 use Rattle.settle_print.proofs.put_next.Statement.{statement}
 use Rattle.settle_print.proofs.put_next.Tie as tie

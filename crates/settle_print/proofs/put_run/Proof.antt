@@ -8,8 +8,8 @@ use Rattle.copying.specs.Pasted.{pasted}
 use Rattle.settle_output.specs.Output.{room, stepLine}
 use Rattle.settle_run.specs.declared.Stepped.{Stepped}
 use Rattle.settle_print.specs.Parts.{behind, runLine, runNext}
-use Rattle.settle_print.specs.declared.Printing.{Printing}
-use Rattle.settle_print.specs.declared.Stage.the-variants.{Run}
+use Rattle.settle_rest.specs.declared.Printing.{Printing}
+use Rattle.settle_rest.specs.declared.Stage.the-variants.{Run}
 use borrow.Author.Needs.{needs}
 use Rattle.settle_print.proofs.put_run.Statement.{statement}
 use Rattle.settle_print.proofs.put_run.Tie as tie

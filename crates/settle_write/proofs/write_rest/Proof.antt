@@ -5,7 +5,8 @@ use native.Mathlib.Omega.{arith}
 use borrow.Author.Needs.{needs}
 use borrow.Author.Tests.{not-true}
 use lib.ListN.{length}
-use Rattle.settle_print.specs.Parts.{isOver, linesLeft}
+use Rattle.settle_rest.specs.Rest.{isOver}
+use Rattle.settle_print.specs.Parts.{linesLeft}
 use Rattle.settle_print.specs.Filling.{filled, fill-less}
 use Rattle.settle_print.specs.declared.Filled.{Filled}
 use Rattle.settle_write.proofs.write_rest.Statement.{statement}

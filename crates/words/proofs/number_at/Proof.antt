@@ -4,10 +4,10 @@ use mathlib.Core.List.{List}
 use Prim.Native.Nat.{ℕ, _+_, _-_, _≤_}
 use native.Mathlib.Omega.{arith}
 use lib.ListN.{length, take, drop, length-drop}
-use Rattle.settle_input.specs.Form.{before-most}
-use Rattle.settle_input.specs.Input.{before}
 use Rattle.text.specs.Lines.{space}
-use Rattle.words.specs.WordLaws.{first-word, end-place, no-words, no-end}
+use Rattle.text_reading.specs.MarkLaws.{before-most}
+use Rattle.text_reading.specs.Marks.{before}
+use Rattle.text_reading.specs.PartLaws.{first-part, end-place, no-parts, no-end}
 use Rattle.words.specs.Words.{decimal, numberIn}
 use Rattle.words.specs.declared.Number.{Number}
 use borrow.Author.Needs.{needs}
@@ -21,7 +21,7 @@ returns : tie.Need-returns
 returns c =
     let a = c .before .before .args in
     let h = c .if1 .taken in
-    ap₂ made (sym (ap (λ (words : List (List ℕ)). numberIn words 0) (no-words (a .line .now) (a .place) h))) (sym (no-end (a .line .now) (a .place) h))
+    ap₂ made (sym (ap (λ (words : List (List ℕ)). numberIn words 0) (no-parts space (a .line .now) (a .place) h))) (sym (no-end space (a .line .now) (a .place) h))
 
 add-start : tie.Need-add-start
 add-start c = search needs
@@ -52,8 +52,8 @@ returns-2 c =
     let end = c .before .before .word-end .ensures in
     let count : c .before .before .word-end .result - (a .place + 1) ≡ before space rest = omega arith in
     ap₂ made
-    (c .decimal .ensures ∙ ap (λ (k : ℕ). decimal (take k rest)) count ∙ ap decimal (sym (first-word (a .line .now) (a .place) h)))
-    (end ∙ sym (end-place (a .line .now) (a .place) h))
+    (c .decimal .ensures ∙ ap (λ (k : ℕ). decimal (take k rest)) count ∙ ap decimal (sym (first-part space (a .line .now) (a .place) h)))
+    (end ∙ sym (end-place space (a .line .now) (a .place) h))
 
 pub number-at-spec : {M : Type 1} → statement M
 number-at-spec =

@@ -1,0 +1,11 @@
+-- What is answered where the input ends.
+use Prim.Native.Nat.{ℕ}
+use mathlib.Core.Bool.{cond}
+use mathlib.Core.List.{List, []}
+use lib.Dec.{ltb}
+use Rattle.input_line.specs.declared.Line.{Line}
+use Rattle.reply_words.specs.Answers.{badText}
+
+-- what is answered to a line without its line feed, at the end of the input
+abbrev pub answerToRest : Line → List ℕ
+answerToRest line = cond (ltb 0 (line .count)) badText []

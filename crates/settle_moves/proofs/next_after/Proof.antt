@@ -1,0 +1,27 @@
+-- `settle_moves::next_after` meets its contract.
+use mathlib.Core.Path.{_∙_}
+use borrow.Author.Needs.{needs}
+use Rattle.settle_moves.specs.Found.{next-found}
+use Rattle.settle_moves.proofs.next_after.Statement.{statement}
+use Rattle.settle_moves.proofs.next_after.Tie as tie
+
+first-listed-requires : tie.Need-first-listed-requires
+first-listed-requires c κs = search needs
+
+add-first-listed : tie.Need-add-first-listed
+add-first-listed c = search needs
+
+first-listed-requires-2 : tie.Need-first-listed-requires-2
+first-listed-requires-2 c κs = search needs
+
+returns : tie.Need-returns
+returns c = c .first-listed2 .ensures ∙ rw (c .before .first-listed .ensures, next-found)
+
+pub next-after-spec : {M : Type 1} → statement M
+next-after-spec =
+    tie.close
+    (tie.spec
+    first-listed-requires
+    add-first-listed
+    first-listed-requires-2
+    returns)

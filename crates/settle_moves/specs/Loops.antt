@@ -1,0 +1,44 @@
+-- Laws for loops that go over a ring by the numbers of its stations. Assumes nothing.
+use mathlib.Core.Path.{_≡_, ap, _∙_, sym}
+use mathlib.Core.List.{List, _++_, map, append-nil}
+use Prim.Native.Nat.{ℕ, suc, _+_, _≤_, _<_}
+use native.Mathlib.Numerals.{add-one}
+use native.Mathlib.Omega.{arith}
+use borrow.Author.Tests.{eq-eqb, ne-eqb}
+use lib.ListN.{length, getD, take, drop, set, drop-of-length-le, length-map, List·getD-map}
+use lib.Seq.{drop-cons, take-suc, take-all, length-take-le, set-at, append-snoc}
+use Rattle.settle_moves.specs.Moves.{firstListed}
+
+module _ (views : List ℕ) (i : ℕ) where
+  -- at the end no station is left
+  pub listed-end : (otherwise : ℕ) → length views ≤ i → firstListed i (drop i views) otherwise ≡ otherwise
+  listed-end otherwise h = ap (λ (l : List ℕ). firstListed i l otherwise) (drop-of-length-le views h)
+
+  -- a number that is not listed is passed over
+  pub listed-skip : (otherwise : ℕ) → i < length views → getD views i 0 ≡ 0
+      → firstListed i (drop i views) otherwise ≡ firstListed (i + 1) (drop (i + 1) views) otherwise
+  listed-skip otherwise h e = rw (add-one, drop-cons views i 0, eq-eqb _ _ e)
+
+  -- a number that is listed is the first there
+  pub listed-first : (otherwise : ℕ) → i < length views → ¬ (getD views i 0 ≡ 0) → firstListed i (drop i views) otherwise ≡ i
+  listed-first otherwise h n = rw (drop-cons views i 0, ne-eqb _ _ n)
+
+-- A loop that takes every element of a list to its value under f, from the front: one more element.
+pub mapped-more : (f : ℕ → ℕ) (old new : List ℕ) (i : ℕ) → i < length old → new ≡ take i (map f old) ++ drop i old
+    → set new i (f (getD old i 0)) ≡ take (i + 1) (map f old) ++ drop (i + 1) old
+mapped-more f old new i h e =
+    let front = take i (map f old) in
+    let here = getD old i 0 in
+    let rest = drop (suc i) old in
+    let long : i < length (map f old) = rw (length-map old f) h in
+    let place : length front ≡ i = length-take-le i (map f old) (omega arith) in
+    ap (λ (l : List ℕ). set l i (f here)) (e ∙ ap (λ (l : List ℕ). front ++ l) (drop-cons old i 0 h))
+    ∙ set-at front here rest (f here) i place
+    ∙ sym (append-snoc front (f here) rest)
+    ∙ sym (rw (add-one i, take-suc (map f old) i (f 0) long, List·getD-map f old i 0))
+
+-- and at the end the whole list
+pub mapped-all : (f : ℕ → ℕ) (old new : List ℕ) (i : ℕ) → length old ≤ i → new ≡ take i (map f old) ++ drop i old → new ≡ map f old
+mapped-all f old new i h e =
+    let all : length (map f old) ≤ i = rw (length-map old f) h in
+    e ∙ rw (take-all i (map f old) all, drop-of-length-le old h, append-nil (map f old))

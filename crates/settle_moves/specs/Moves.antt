@@ -1,0 +1,26 @@
+-- What an event does to the ring that `settle` works on. Words in quotes are paper 01's.
+use mathlib.Core.Bool.{cond}
+use mathlib.Core.List.{List, [], _∷_, map}
+use Prim.Native.Nat.{ℕ, suc, min}
+use lib.Dec.{eqb}
+use Rattle.settling.specs.Ring.{Event, move}
+use Rattle.views.specs.Views.{stationsOf}
+use Rattle.views.specs.declared.Ring.{Ring}
+
+-- the first listed station among views that start at the station `number`, or `otherwise` where there is none
+abbrev pub firstListed : ℕ → List ℕ → ℕ → ℕ
+firstListed number [] otherwise = otherwise
+firstListed number (view ∷ views) otherwise = cond (eqb view 0) (firstListed (suc number) views otherwise) number
+
+-- the view of a station after a token frame: "if the source is our view, the view becomes the destination. Otherwise the view becomes
+-- the smaller of view and destination." 0, which stands for no station, stays 0.
+abbrev pub passedView : ℕ → ℕ → ℕ → ℕ
+passedView view from to = cond (eqb view 0) 0 (cond (eqb view from) to (min view to))
+
+-- a view after an event in a ring of these stations; 0, which stands for no station, stays 0
+abbrev pub viewAfter : List ℕ → Event → ℕ → ℕ
+viewAfter ns event view = cond (eqb view 0) 0 (move ns (λ station. view) event 0)
+
+-- the ring after an event
+abbrev pub moved : Ring → Event → Ring
+moved ring event = record { views = map (viewAfter (stationsOf ring) event) (ring .views) }

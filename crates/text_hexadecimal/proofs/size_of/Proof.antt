@@ -1,0 +1,27 @@
+-- `text_hexadecimal::size_of` meets its contract.
+use mathlib.Core.Path.{ap, sym, _∙_}
+use mathlib.Core.Bool.{Bool, cond, _&&_}
+use Prim.Native.Nat.{_/_}
+use lib.ListN.{length}
+use Rattle.text_hexadecimal.specs.OctetLaws.{even, octets-length}
+use borrow.Author.Needs.{needs}
+use Rattle.text_hexadecimal.proofs.size_of.Statement.{statement}
+use Rattle.text_hexadecimal.proofs.size_of.Tie as tie
+
+all-hexadecimal-requires : tie.Need-all-hexadecimal-requires
+all-hexadecimal-requires c κs = search needs
+
+returns : tie.Need-returns
+returns c =
+    let digits = c .before .before .before .args .digits .now in
+    let test = ap (λ (t : Bool). t && even (length digits)) (sym (c .before .all-hexadecimal .ensures)) ∙ c .if1 .taken in
+    sym (octets-length digits ∙ ap (λ (t : Bool). cond t (length digits / 2) 0) test)
+
+returns-2 : tie.Need-returns-2
+returns-2 c =
+    let digits = c .before .before .before .args .digits .now in
+    let test = ap (λ (t : Bool). t && even (length digits)) (sym (c .before .all-hexadecimal .ensures)) ∙ c .if1 .left in
+    sym (octets-length digits ∙ ap (λ (t : Bool). cond t (length digits / 2) 0) test)
+
+pub size-of-spec : {M : Type 1} → statement M
+size-of-spec = tie.close (tie.spec all-hexadecimal-requires returns returns-2)
