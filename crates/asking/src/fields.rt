@@ -4,7 +4,7 @@ use frame::Fields;
 use station::Settings;
 use units::Milliseconds;
 ghost use mathlib.Core.Path.{_≡_};
-ghost use Rattle.round_trip.specs.Sent.{requestFields, triggerFields};
+ghost use Rattle.frame_round_trip.specs.Sent.{requestFields, triggerFields};
 
 pub fn request_fields(own: Settings) -> Fields
     ensures { λ r. ⌜ r ≡ requestFields (own .number) (own .areas) (own .watch) ⌝ }
@@ -27,7 +27,7 @@ pub fn request_fields(own: Settings) -> Fields
 pub fn trigger_fields(number: u8) -> Fields
     ensures { λ r. ⌜ r ≡ triggerFields number ⌝ }
 {
-    let areas = states::no_areas();
+    let areas = phases::no_areas();
     Fields {
         length: 64,
         source: number,

@@ -13,7 +13,7 @@ use sent::request_sent;
 use station::Asked;
 use station::Phase;
 use station::Station;
-use writing::Written;
+use frame_writing::Written;
 ghost use mathlib.Core.Path.{_≡_};
 ghost use mathlib.Core.Bool.{true};
 ghost use mathlib.Core.List.{[]};
@@ -21,10 +21,10 @@ ghost use Prim.Native.Nat.{_≤_};
 ghost use lib.ListN.{length, drop};
 ghost use Rattle.area.specs.Areas.{memoryOctets};
 ghost use Rattle.block.specs.Blocks.{startOf};
-ghost use Rattle.reading.specs.Reading.{dataSize};
+ghost use Rattle.frame_reading.specs.Reading.{dataSize};
 ghost use Rattle.station.specs.Rules.Asking.{isPlaced, dueIn, nextBlock, dueFields, turnAfter, blockSent, sentIn, lentRight, askOf};
 ghost use Rattle.station.specs.declared.Phase.the-variants.{Participating};
-ghost use Rattle.writing.specs.Writing.{wholeLength, outputOf};
+ghost use Rattle.frame_writing.specs.Writing.{wholeLength, outputOf};
 
 // A call: the state after it, and the answer.
 pub struct Asking {
@@ -47,7 +47,7 @@ fn write(fields: Fields, block: &[u8], output: &mut [u8]) -> usize
     ensures { λ r. ⌜ r ≡ wholeLength fields ⌝ }
     ensures { λ _. ⌜ now (output .exit) ≡ outputOf fields (now (block .entry)) (now (output .entry)) ⌝ }
 {
-    match writing::write_frame(fields, block, output) {
+    match frame_writing::write_frame(fields, block, output) {
         Written::Octets(octets) => octets,
         Written::Refused(_) => 0,
     }
@@ -80,8 +80,8 @@ fn send_block(station: Station, memory: &[u8], turn: &mut [u8], output: &mut [u8
     let own = station.own;
     let number = own.number;
     let members = station.members;
-    let next = searching::next_after(number, members, number);
-    let octets = sending::send_next(own, station.block, next, memory, turn, output);
+    let next = members_searching::next_after(number, members, number);
+    let octets = asking_sending::send_next(own, station.block, next, memory, turn, output);
     let answer = Asked::Octets(octets);
     let station = block_sent(station, next);
     Asking { station, answer }
@@ -102,13 +102,13 @@ fn send(station: Station, memory: &[u8], turn: &mut [u8], output: &mut [u8]) -> 
     match phase {
         Phase::Off => refused(station, Refusal::NotDue),
         Phase::Listening => send_bare(
-            states::fresh(Phase::Startup, own),
+            phases::fresh(Phase::Startup, own),
             trigger_fields(own.number),
             output,
         ),
         Phase::Startup => send_bare(request_sent(station), request_fields(own), output),
         Phase::Joining => send_bare(
-            states::begin(own, members, station.view),
+            phases::begin(own, members, station.view),
             request_fields(own),
             output,
         ),
@@ -122,7 +122,7 @@ pub fn ask(station: Station, memory: &[u8], turn: &mut [u8], output: &mut [u8]) 
     ensures { λ _. ⌜ now (turn .exit) ≡ askOf station (now (memory .entry)) (now (turn .entry)) (now (output .entry)) .turn ⌝ }
     ensures { λ _. ⌜ now (output .exit) ≡ askOf station (now (memory .entry)) (now (turn .entry)) (now (output .entry)) .output ⌝ }
 {
-    if !placing::is_lent_right(memory, turn, output) {
+    if !asking_placing::is_lent_right(memory, turn, output) {
         return refused(station, Refusal::Buffer);
     }
     if !is_due(station) {

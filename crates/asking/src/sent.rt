@@ -23,7 +23,7 @@ pub fn block_sent(station: Station, next: u8) -> Station
 {
     let own = station.own;
     let panel = station.panel;
-    let after = placing::after_block(own, station.view, station.block, panel, next);
+    let after = asking_placing::after_block(own, station.view, station.block, panel, next);
     let panel = after.panel;
     Station {
         phase: Phase::Participating,

@@ -1,8 +1,8 @@
 // An accepted cyclic frame heard by a participant, on its core alone.
-use answers::cyclic;
+use boundary_answers::cyclic;
 use area::Areas;
-use boundary::Core;
-use boundary::Outcome;
+use boundary_core::Core;
+use boundary_core::Outcome;
 use frame::Fields;
 use station::Gathering;
 use units::Ticks;
@@ -10,11 +10,11 @@ ghost use mathlib.Core.Path.{_≡_};
 ghost use mathlib.Core.Bool.{true};
 ghost use lib.ListN.{length};
 ghost use Rattle.frame.specs.Codes.{isCyclic};
-ghost use Rattle.token.specs.Parts.{outcomeBy};
-ghost use Rattle.answers.specs.Numbers.{cyclicAnswer};
+ghost use Rattle.hearing_token.specs.Parts.{outcomeBy};
+ghost use Rattle.boundary_answers.specs.Numbers.{cyclicAnswer};
 ghost use Rattle.boundary_participant.specs.Quick.{restartedCore};
-ghost use Rattle.reading.specs.Reading.{readBodyOf, dataOf};
-ghost use Rattle.reading.specs.declared.Read.the-variants as reads;
+ghost use Rattle.frame_reading.specs.Reading.{readBodyOf, dataOf};
+ghost use Rattle.frame_reading.specs.declared.Read.the-variants as reads;
 ghost use Rattle.station.specs.Rules.Data.{gatheredFrom};
 ghost use Rattle.station.specs.Rules.Hearing.{lentRight};
 ghost use Rattle.station.specs.Rules.Token.{viewHeard};
@@ -24,10 +24,10 @@ fn restart(core: Core, view: u8, gathering: Gathering) -> Core
 {
     let number = core.own.number;
     let counter = core.panel;
-    let block = states::place_kept(view, number, core.block);
-    let panel = states::taken_if(states::takes(number, core.view, view), counter);
+    let block = phases::place_kept(view, number, core.block);
+    let panel = phases::taken_if(phases::takes(number, core.view, view), counter);
     Core {
-        phase: boundary::PARTICIPATING,
+        phase: boundary_core::PARTICIPATING,
         elapsed: Ticks(0),
         view,
         block,
@@ -56,11 +56,11 @@ pub fn hear_accepted(
 {
     let before = core.gathering;
     let number = core.own.number;
-    let stored = heard_data::gather_frame(before, listed, frame, octets, memory, assembly);
+    let stored = hearing_data::gather_frame(before, listed, frame, octets, memory, assembly);
     let after = stored.gathering;
     let outcome = stored.outcome;
-    let answer = cyclic(token::outcome_of(number, core.view, frame, outcome));
-    let view = token::view_heard(core.view, frame);
+    let answer = cyclic(hearing_token::outcome_of(number, core.view, frame, outcome));
+    let view = hearing_token::view_heard(core.view, frame);
     let core = restart(core, view, after);
     Outcome { core, answer }
 }

@@ -12,15 +12,15 @@ use Rattle.station.specs.Rules.Asking.{placedIn, lastIn, nextFields, turnFor}
 use Rattle.block.specs.Blocks.{startOf}
 use Rattle.frame.specs.Codes.{isToken, isCyclic}
 use Rattle.frame.specs.declared.Fields.{Fields}
-use Rattle.heard_data.specs.Body.{body-read}
+use Rattle.hearing_data.specs.Body.{body-read}
 use Rattle.laws.specs.Tests.{first, second}
 use Rattle.members.specs.Members.{isListed, nextAfter}
 use Rattle.members.specs.declared.Members.{Members}
 use Rattle.panel.specs.Panel.{ticked, taken}
-use Rattle.reading.specs.Reading.{andThen, readOf, readHeaderOf, readBodyOf, dataOf}
-use Rattle.reading.specs.declared.Read.{Read}
-use Rattle.reading.specs.declared.Read.the-variants as reads
-use Rattle.round_trip.specs.Accepted.{bodied}
+use Rattle.frame_reading.specs.Reading.{andThen, readOf, readHeaderOf, readBodyOf, dataOf}
+use Rattle.frame_reading.specs.declared.Read.{Read}
+use Rattle.frame_reading.specs.declared.Read.the-variants as reads
+use Rattle.frame_round_trip.specs.Accepted.{bodied}
 use Rattle.station.specs.Rules.Answers.{phaseNumber}
 use Rattle.station.specs.Rules.Asking as asks
 use Rattle.station.specs.Rules.Data.{gathered}
@@ -33,9 +33,9 @@ use Rattle.station.specs.declared.Asked.the-variants.{Octets}
 use Rattle.station.specs.declared.Gathering.{Gathering}
 use Rattle.station.specs.declared.Phase.the-variants.{Participating}
 use Rattle.station.specs.declared.Ticked.the-variants.{Done}
-use Rattle.writing.specs.Writing.{wholeLength, outputOf}
-use Rattle.boundary.specs.Crossing.{stationOf, coreOf, isIn}
-use Rattle.boundary.specs.declared.Core.{Core}
+use Rattle.frame_writing.specs.Writing.{wholeLength, outputOf}
+use Rattle.boundary_core.specs.Crossing.{stationOf, coreOf, isIn}
+use Rattle.boundary_core.specs.declared.Core.{Core}
 
 -- a participant whose next tick does not end its watch
 abbrev pub isQuiet : Core → Bool

@@ -1,5 +1,5 @@
 // A participant's tick, the test of a frame heard and its block sent, on its core alone.
-use boundary::Core;
+use boundary_core::Core;
 use frame::Fields;
 use units::Ticks;
 ghost use mathlib.Core.Path.{_≡_};
@@ -11,7 +11,7 @@ pub fn is_quiet(core: Core) -> bool
 {
     let watch = core.own.watch;
     let elapsed = core.elapsed;
-    (core.phase == boundary::PARTICIPATING) & !waits::watch_ends(watch, elapsed)
+    (core.phase == boundary_core::PARTICIPATING) & !waits::watch_ends(watch, elapsed)
 }
 
 pub fn quiet(core: Core) -> Core
@@ -34,7 +34,7 @@ pub fn is_accepted(core: Core, source: bool, destination: bool, frame: Fields) -
 {
     let code = frame.code;
     let number = core.own.number;
-    let cyclic = (core.phase == boundary::PARTICIPATING) & frame::is_cyclic(code);
+    let cyclic = (core.phase == boundary_core::PARTICIPATING) & frame::is_cyclic(code);
     let other = (frame.source != number) & source;
     let known = !frame::is_token(code) | ((frame.destination == number) | destination);
     cyclic & (other & known)
@@ -44,8 +44,8 @@ pub fn holds_block(core: Core) -> bool
     ensures { λ r. ⌜ r ≡ holdsBlock core ⌝ }
 {
     let own = core.own;
-    (core.phase == boundary::PARTICIPATING)
-        & ((core.view == own.number) & placing::is_placed(own, core.block))
+    (core.phase == boundary_core::PARTICIPATING)
+        & ((core.view == own.number) & asking_placing::is_placed(own, core.block))
 }
 
 // The core after a block is sent, where `next` is the number next after ours.
@@ -55,10 +55,10 @@ pub fn sent_block(core: Core, next: u8) -> Core
 {
     let own = core.own;
     let counter = core.panel;
-    let after = placing::after_block(own, core.view, core.block, counter, next);
+    let after = asking_placing::after_block(own, core.view, core.block, counter, next);
     let panel = after.panel;
     Core {
-        phase: boundary::PARTICIPATING,
+        phase: boundary_core::PARTICIPATING,
         elapsed: Ticks(0),
         view: after.view,
         block: after.block,

@@ -14,9 +14,9 @@ use Rattle.frame.specs.declared.Code.the-variants.{Token, Cyclic, Request}
 use Rattle.members.specs.Listing.{listing}
 use Rattle.members.specs.Members.{noMembers, nextAfter}
 use Rattle.members.specs.declared.Members.{Members}
-use Rattle.reading.specs.Reading.{fieldsOf, readOf}
-use Rattle.reading.specs.declared.Read.{Read}
-use Rattle.reading.specs.declared.Read.the-variants as reads
+use Rattle.frame_reading.specs.Reading.{fieldsOf, readOf}
+use Rattle.frame_reading.specs.declared.Read.{Read}
+use Rattle.frame_reading.specs.declared.Read.the-variants as reads
 use Rattle.settle_input.specs.Input.{linesOf, entryOf, formsFrom}
 use Rattle.settle_rest.specs.Whole.{stepLines, outputOf}
 use Rattle.settle_run.specs.Run.{runFrom}
@@ -28,7 +28,7 @@ use Rattle.station.specs.declared.Station.{Station}
 use Rattle.station.specs.declared.Switched.{Switched}
 use Rattle.station.specs.declared.Switched.the-variants as switches
 use Rattle.text.specs.Decimal.{decimalAt}
-use Rattle.writing.specs.Writing.{noAreas, noWatch, fixedFor, headerOf, frameOf}
+use Rattle.frame_writing.specs.Writing.{noAreas, noWatch, fixedFor, headerOf, frameOf}
 
 -- a marked case, with what the paper says of it
 pub data Case : Type 0 where

@@ -4,11 +4,11 @@ use mathlib.Core.Path.{_≡_}
 use mathlib.Core.Bool.{cond}
 use mathlib.Core.List.{List, [], _++_}
 use lib.ListN.{length, replicate}
-use Rattle.answering.specs.Answers.{textOf}
-use Rattle.decoding.specs.Gathering.{fresh, pushed, bufferAfter, answered, begun}
-use Rattle.decoding.specs.declared.Answer.the-variants.{Bad}
-use Rattle.decoding.specs.declared.Gathered.{Gathered}
-use Rattle.feeding.specs.Feeding.{Program, fedAll, answeredAll}
+use Rattle.decode_answers.specs.Answers.{textOf}
+use Rattle.decode_line.specs.Gathering.{fresh, pushed, bufferAfter, answered, begun}
+use Rattle.decode_line.specs.declared.Answer.the-variants.{Bad}
+use Rattle.decode_line.specs.declared.Gathered.{Gathered}
+use Rattle.text_feeding.specs.Feeding.{Program, fedAll, answeredAll}
 
 -- what is carried from octet to octet: the line so far, and the buffer in which its octets are stored
 pub record Carried : Type 0 where

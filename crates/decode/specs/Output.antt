@@ -6,21 +6,21 @@ use mathlib.Core.List.{List, [], _∷_, _++_}
 use Prim.Native.Nat.{ℕ}
 use native.Mathlib.Omega.{arith}
 use lib.ListN.{length, replicate, length-set}
-use Rattle.answering.specs.Answers.{textOf}
-use Rattle.decoding.specs.Begun.{begun-line}
-use Rattle.decoding.specs.Gathering.{fresh, pushed, bufferBy, bufferAfter, answered}
-use Rattle.decoding.specs.Heard.{line-heard}
+use Rattle.decode_answers.specs.Answers.{textOf}
+use Rattle.decode_line.specs.Begun.{begun-line}
+use Rattle.decode_line.specs.Gathering.{fresh, pushed, bufferBy, bufferAfter, answered}
+use Rattle.decode_line.specs.Heard.{line-heard}
 use Rattle.text_hexadecimal.specs.Hexadecimal.{digitOf}
-use Rattle.decoding.specs.Line.{lineAnswer, pushedAll, bufferAll}
+use Rattle.decode_line.specs.Line.{lineAnswer, pushedAll, bufferAll}
 use Rattle.text_scanning.specs.Scanning.{NoFeed}
-use Rattle.decoding.specs.declared.Answer.the-variants as answers
-use Rattle.decoding.specs.declared.Gathered.{Gathered}
+use Rattle.decode_line.specs.declared.Answer.the-variants as answers
+use Rattle.decode_line.specs.declared.Gathered.{Gathered}
 use Rattle.text_hexadecimal.specs.declared.Hexadecimal.{Hexadecimal}
 use Rattle.text_hexadecimal.specs.declared.Hexadecimal.the-variants.{Digit, Other}
-use Rattle.decoding.specs.declared.Pending.{Pending}
-use Rattle.decoding.specs.declared.Pending.the-variants.{Nothing, Half, Bad}
-use Rattle.feeding.specs.Feeding as feeding
-use Rattle.feeding.specs.Lines.{parted, Meaning, repliesTo, Meant, text-came}
+use Rattle.decode_line.specs.declared.Pending.{Pending}
+use Rattle.decode_line.specs.declared.Pending.the-variants.{Nothing, Half, Bad}
+use Rattle.text_feeding.specs.Feeding as feeding
+use Rattle.text_feeding.specs.Lines.{parted, Meaning, repliesTo, Meant, text-came}
 use Rattle.decode.specs.Capture.{Carried, carried, decode, answerToRest, outputOf}
 use Rattle.decode.specs.Scanned.{pushed-both}
 

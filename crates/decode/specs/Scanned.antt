@@ -3,14 +3,14 @@ use mathlib.Core.Path.{_≡_, refl}
 use mathlib.Core.List.{List, [], _∷_}
 use Prim.Native.Nat.{ℕ}
 use lib.ListN.{drop}
-use Rattle.decoding.specs.Gathering.{pushed, bufferAfter, made, scanned, bufferScanned}
-use Rattle.decoding.specs.Line.{pushedAll, bufferAll}
+use Rattle.decode_line.specs.Gathering.{pushed, bufferAfter, made, scanned, bufferScanned}
+use Rattle.decode_line.specs.Line.{pushedAll, bufferAll}
 use Rattle.text_scanning.specs.Scans.{scan-part, buffer-part, scan-line, buffer-line}
-use Rattle.decoding.specs.declared.Gathered.{Gathered}
-use Rattle.decoding.specs.declared.Scanned.{Scanned}
-use Rattle.feeding.specs.Feeding as feeding
-use Rattle.feeding.specs.Cut.{Cut, feed, clean, cut}
-use Rattle.feeding.specs.Scan.{Scan, scan-feed, scan-clean}
+use Rattle.decode_line.specs.declared.Gathered.{Gathered}
+use Rattle.decode_line.specs.declared.Scanned.{Scanned}
+use Rattle.text_feeding.specs.Feeding as feeding
+use Rattle.text_feeding.specs.Cut.{Cut, feed, clean, cut}
+use Rattle.text_feeding.specs.Scan.{Scan, scan-feed, scan-clean}
 use Rattle.decode.specs.Capture.{carried, decode}
 
 -- the line and the buffer are pushed octet by octet

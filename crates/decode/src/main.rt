@@ -1,15 +1,15 @@
 // Decodes a capture: one frame a line in hexadecimal on standard input, one answer a line on standard output. What is answered is decided by
 // the libraries decoding and answering; here the input is only handed to them, part by part.
-use decoding::Answer;
-use decoding::Gathered;
+use decode_line::Answer;
+use decode_line::Gathered;
 use libc::STDOUT_FILENO;
 ghost use mathlib.Core.Path.{_≡_};
 ghost use mathlib.Core.List.{List};
 ghost use Prim.Native.Nat.{ℕ, _<_};
 ghost use lib.ListN.{length, take, replicate};
 ghost use Rattle.copying.specs.Pasted.{pasted};
-ghost use Rattle.decoding.specs.Gathering.{fresh};
-ghost use Rattle.feeding.specs.Feeding.{between, ended, Forward, Onward, Taken, Arrived};
+ghost use Rattle.decode_line.specs.Gathering.{fresh};
+ghost use Rattle.text_feeding.specs.Feeding.{between, ended, Forward, Onward, Taken, Arrived};
 ghost use Rattle.decode.specs.Capture.{carried, after, answers, Answering, answerToRest};
 
 // What the next line feed, or the end of a part, leaves: the line so far, the place behind, whether a line has ended there, and the length of
@@ -36,12 +36,12 @@ fn take_next(line: Gathered, part: &[u8], at: usize, frame: &mut [u8], text: &mu
     ensures { λ r. ⌜ r .ended ≡ ended (now (part .entry)) at (r .at) ⌝ }
     ensures { λ r. ⌜ (at < length (now (part .entry)) → Forward (now (part .entry)) at (r .at)) ⌝ }
 {
-    let scanned = decoding::scan(line, part, at, frame);
+    let scanned = decode_line::scan(line, part, at, frame);
     let rest = scanned.gathered;
     let to = scanned.next;
     if scanned.ended {
-        let length = answering::put_answer(decoding::answer_to(rest, frame), text);
-        let fresh = decoding::start();
+        let length = decode_answers::put_answer(decode_line::answer_to(rest, frame), text);
+        let fresh = decode_line::start();
         return Next {
             line: fresh,
             at: to,
@@ -112,7 +112,7 @@ fn decode_some(line: Gathered, part: &mut [u8], frame: &mut [u8]) -> Going
     ensures { λ r. ⌜ carried (r .line) (now (frame .exit)) ≡ after line (now (frame .entry)) (take (r .at) (now (part .exit))) ⌝ }
     ensures { λ r. ⌜ Arrived (now (part .exit)) (r .at) (r .on) ⌝ }
 {
-    let read = feeding::read_some(part);
+    let read = text_feeding::read_some(part);
     let going = decode_part(line, &part[0..read], frame);
     let rest = going.line;
     Going {
@@ -127,7 +127,7 @@ fn decode_all(part: &mut [u8], frame: &mut [u8]) -> Gathered
     ensures { λ r. ⌜ ((input : List ℕ) × (carried r (now (frame .exit)) ≡ after fresh (now (frame .entry)) input)) ⌝ }
 {
     let mut going = Going {
-        line: decoding::start(),
+        line: decode_line::start(),
         at: 0,
         on: true,
     };
@@ -153,8 +153,8 @@ fn put_rest(line: Gathered, text: &mut [u8; 160]) -> usize
     ensures { λ r. ⌜ r ≡ length (answerToRest line) ⌝ }
     ensures { λ _. ⌜ now (text .exit) ≡ pasted (now (text .entry)) 0 (answerToRest line) ⌝ }
 {
-    if decoding::has_begun(line) {
-        return answering::put_answer(Answer::Bad, text);
+    if decode_line::has_begun(line) {
+        return decode_answers::put_answer(Answer::Bad, text);
     }
     0
 }

@@ -1,14 +1,14 @@
 -- A station as a host in C keeps it, its core and its list in four arrays, and what each exported call leaves of it: the contracts of
--- `crates/host/src/lib.rt`, one equation for each of their clauses. ("Box" is the request's word for a station's device.)
+-- `crates/flnet_station/src/lib.rt`, one equation for each of their clauses. ("Box" is the request's word for a station's device.)
 use mathlib.Core.Path.{_≡_}
 use mathlib.Core.Bool.{Bool}
 use mathlib.Core.List.{List}
 use Prim.Native.Nat.{ℕ}
-use Rattle.boundary.specs.Crossing.{coreOf, stationIn}
-use Rattle.answers.specs.Numbers.{switchedAnswer, tickedAnswer, heardAnswer, askedAnswer}
-use Rattle.answers.specs.declared.Answer.{Answer}
-use Rattle.boundary.specs.declared.Core.{Core}
-use Rattle.lists.specs.Lists.{membersIn, Whole}
+use Rattle.boundary_core.specs.Crossing.{coreOf, stationIn}
+use Rattle.boundary_answers.specs.Numbers.{switchedAnswer, tickedAnswer, heardAnswer, askedAnswer}
+use Rattle.boundary_answers.specs.declared.Answer.{Answer}
+use Rattle.boundary_core.specs.declared.Core.{Core}
+use Rattle.boundary_lists.specs.Lists.{membersIn, Whole}
 use Rattle.station.specs.Rules.Asking.{askOf}
 use Rattle.station.specs.Rules.Calls.{Call, start, stop, tick, hear, ask, after, lent, lentAfter}
 use Rattle.station.specs.Rules.Hearing.{hearOf}

@@ -5,15 +5,15 @@ use mathlib.Core.Bool.{false}
 use mathlib.Core.List.{List}
 use Prim.Native.Nat.{ℕ, zero, suc, _≤_, _<_}
 use native.Mathlib.Omega.{arith}
-use Rattle.boundary.specs.Crossing.{coreOf, stationOf, station-kept, phaseOf}
-use Rattle.answers.specs.Numbers.{switchedAnswer, tickedAnswer, heardAnswer, askedAnswer}
-use Rattle.answers.specs.declared.Answer.{Answer}
-use Rattle.boundary.specs.declared.Core.{Core}
+use Rattle.boundary_core.specs.Crossing.{coreOf, stationOf, station-kept, phaseOf}
+use Rattle.boundary_answers.specs.Numbers.{switchedAnswer, tickedAnswer, heardAnswer, askedAnswer}
+use Rattle.boundary_answers.specs.declared.Answer.{Answer}
+use Rattle.boundary_core.specs.declared.Core.{Core}
 use Rattle.frame.specs.Refusals.{numberOf}
 use Rattle.frame.specs.declared.Refusal.{Refusal}
 use Rattle.frame.specs.declared.Refusal.the-variants as refusals
-use Rattle.lists.specs.Laws.{list-told}
-use Rattle.lists.specs.Lists.{membersIn}
+use Rattle.boundary_lists.specs.Laws.{list-told}
+use Rattle.boundary_lists.specs.Lists.{membersIn}
 use Rattle.members.specs.declared.Members.{Members}
 use Rattle.station.specs.Rules.Answers.{phaseNumber}
 use Rattle.station.specs.Rules.Asking.{askOf}

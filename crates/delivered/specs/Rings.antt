@@ -7,8 +7,8 @@ use native.Mathlib.Decide.{ℕ-discrete}
 use native.Mathlib.Omega.{arith}
 use lib.ListN.{take}
 use borrow.Author.Tests.{eq-eqb, ne-eqb}
-use Rattle.answers.specs.Numbers.{askedAnswer}
-use Rattle.answers.specs.declared.Answer.{Answer}
+use Rattle.boundary_answers.specs.Numbers.{askedAnswer}
+use Rattle.boundary_answers.specs.declared.Answer.{Answer}
 use Rattle.ring.specs.Demand.{Disturbed, RingSettles}
 use Rattle.ring.specs.DemandThree.{demand-three-whole}
 use Rattle.ring.specs.Events.{Stations, Lent, Event, asked, ticked, stray, handed, afterEvent, AllName, CanCome}

@@ -12,7 +12,7 @@ pub fn trigger_due(station: Station) -> bool
 {
     let own = station.own;
     let elapsed = station.elapsed;
-    let wait = states::listening_time(own.number);
+    let wait = phases::listening_time(own.number);
     wait.0 <= elapsed.0
 }
 
@@ -24,7 +24,7 @@ pub fn request_fallen(station: Station) -> bool
     let own = station.own;
     let elapsed = station.elapsed;
     let waited = station.waited;
-    let wait = states::number_wait(own.number);
+    let wait = phases::number_wait(own.number);
     match phase {
         Phase::Off => false,
         Phase::Listening => false,
@@ -42,7 +42,7 @@ pub fn ours_due(station: Station) -> Areas
     if request_fallen(station) {
         own.areas
     } else {
-        states::no_areas()
+        phases::no_areas()
     }
 }
 
@@ -51,8 +51,8 @@ pub fn own_due(own: Settings, members: Members) -> Settings
     ensures { λ r. ⌜ r ≡ ownDue own members ⌝ }
 {
     let areas = own.areas;
-    if listing::overlaps_listed(members, areas) {
-        let areas = listing::bare(areas);
+    if members_listing::overlaps_listed(members, areas) {
+        let areas = members_listing::bare(areas);
         return Settings { areas, ..own };
     }
     own

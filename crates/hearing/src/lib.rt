@@ -1,15 +1,15 @@
 // Hearing a frame.
 use frame::Fields;
 use frame::Refusal;
-use reading::Read;
+use frame_reading::Read;
 use station::Heard;
 use station::Station;
 ghost use mathlib.Core.Path.{_≡_};
 ghost use mathlib.Core.Bool.{true};
 ghost use lib.ListN.{length};
 ghost use Rattle.frame.specs.Codes.{isCyclic};
-ghost use Rattle.reading.specs.Reading.{readBodyOf, dataOf};
-ghost use Rattle.reading.specs.declared.Read.the-variants as reads;
+ghost use Rattle.frame_reading.specs.Reading.{readBodyOf, dataOf};
+ghost use Rattle.frame_reading.specs.declared.Read.the-variants as reads;
 ghost use Rattle.station.specs.Rules.Data.{gathered};
 ghost use Rattle.station.specs.Rules.Hearing.{knows as knowsOf, isStranger, isTaken, afterTaken, lentRight, participantHeard, accepted, bodyHeard, headerHeard, hearOf};
 
@@ -33,7 +33,7 @@ fn is_taken(station: Station, frame: Fields) -> bool
 {
     let phase = station.phase;
     let own = station.own;
-    !states::is_off(phase) & (frame.source == own.number)
+    !phases::is_off(phase) & (frame.source == own.number)
 }
 
 // Number 6 turns a station off that does not participate yet.
@@ -41,10 +41,10 @@ fn after_taken(station: Station) -> Station
     ensures { λ r. ⌜ r ≡ afterTaken station ⌝ }
 {
     let phase = station.phase;
-    if states::is_participating(phase) {
+    if phases::is_participating(phase) {
         station
     } else {
-        states::stopped(station)
+        phases::stopped(station)
     }
 }
 
@@ -62,7 +62,7 @@ fn is_stranger(station: Station, frame: Fields) -> bool
 {
     let phase = station.phase;
     let code = frame.code;
-    let asked = states::is_participating(phase) & frame::is_cyclic(code);
+    let asked = phases::is_participating(phase) & frame::is_cyclic(code);
     let known = knows(station, frame.source)
         & (!frame::is_token(code) | knows(station, frame.destination));
     asked & !known
@@ -89,13 +89,13 @@ fn participant_hears(
     let panel = station.panel;
     let entry = members::entry_of(members, frame.source);
     let listed = entry.areas;
-    let stored = heard_data::gather_frame(before, listed, frame, octets, memory, assembly);
+    let stored = hearing_data::gather_frame(before, listed, frame, octets, memory, assembly);
     let after = stored.gathering;
     let outcome = stored.outcome;
     let number = station.own.number;
-    let answer = Heard::Cyclic(token::outcome_of(number, station.view, frame, outcome));
-    let view = token::view_heard(station.view, frame);
-    let station = states::restart(
+    let answer = Heard::Cyclic(hearing_token::outcome_of(number, station.view, frame, outcome));
+    let view = hearing_token::view_heard(station.view, frame);
+    let station = phases::restart(
         station,
         members::clear(members, frame.source),
         view,
@@ -122,11 +122,11 @@ fn accept(
 {
     let phase = station.phase;
     let code = frame.code;
-    if states::is_participating(phase) & frame::is_cyclic(code) {
+    if phases::is_participating(phase) & frame::is_cyclic(code) {
         return participant_hears(station, frame, octets, memory, assembly);
     }
-    let answer = token::answer(phase, code);
-    let after = entering::enter(station, frame);
+    let answer = hearing_token::answer(phase, code);
+    let after = hearing_entering::enter(station, frame);
     Hearing {
         station: after,
         answer,
@@ -171,7 +171,7 @@ fn hear_header(
     if is_taken(station, frame) {
         return refused(after_taken(station), Refusal::Taken);
     }
-    match reading_body::read_body(octets.len(), frame) {
+    match frame_body::read_body(octets.len(), frame) {
         Read::Frame(body) => hear_body(station, body, octets, memory, assembly),
         Read::Refused(refusal) => refused(station, refusal),
     }
@@ -187,7 +187,7 @@ pub fn hear(station: Station, octets: &[u8], memory: &mut [u8], assembly: &mut [
     if (memory.len() != area::MEMORY_OCTETS) | (assembly.len() != area::MEMORY_OCTETS) {
         return refused(station, Refusal::Buffer);
     }
-    match reading::read_header(octets) {
+    match frame_reading::read_header(octets) {
         Read::Frame(frame) => hear_header(station, frame, octets, memory, assembly),
         Read::Refused(first) => refused(station, first),
     }

@@ -11,9 +11,9 @@ use Rattle.frame.specs.declared.Fields.{Fields}
 use Rattle.frame.specs.declared.Refusal.the-variants as refusals
 use Rattle.members.specs.Listing.{listing}
 use Rattle.members.specs.Members.{entryOf, isListed}
-use Rattle.reading.specs.Reading.{readOf}
-use Rattle.reading.specs.declared.Read.{Read}
-use Rattle.round_trip.specs.Accepted.{reads}
+use Rattle.frame_reading.specs.Reading.{readOf}
+use Rattle.frame_reading.specs.declared.Read.{Read}
+use Rattle.frame_round_trip.specs.Accepted.{reads}
 use Rattle.station.specs.Outcomes.AskCases as on-asking
 use Rattle.station.specs.Rules.Calls.{Call, start, stop, tick, hear, ask, after, heardVerdict}
 use Rattle.station.specs.Rules.Data.{dropped}
@@ -30,7 +30,7 @@ use Rattle.station.specs.declared.Phase.{Phase}
 use Rattle.station.specs.declared.Phase.the-variants.{Off, Listening, Startup, Joining, Participating}
 use Rattle.station.specs.declared.Station.{Station}
 use Rattle.station.specs.declared.Switched.the-variants.{Done}
-use Rattle.writing.specs.Writing.{noAreas}
+use Rattle.frame_writing.specs.Writing.{noAreas}
 use Rattle.station.specs.Rules.Asking.{Asking}
 use Rattle.misses.specs.EntryMoves.{Moves, same, gone, listing-moves, cleared-moves, missed-moves, first-moves}
 use Rattle.misses.specs.MissHistory.{isUnrefused, readsAs, listsIn, lists, accepts, ends, isStop}

@@ -11,9 +11,9 @@ use Rattle.frame.specs.declared.Code.{Code}
 use Rattle.frame.specs.declared.Code.the-variants.{Token, Cyclic, Request, Trigger}
 use Rattle.frame.specs.declared.Fields.{Fields}
 use Rattle.members.specs.Members.{isListed}
-use Rattle.reading.specs.Reading.{readOf}
-use Rattle.reading.specs.declared.Read.{Read}
-use Rattle.reading.specs.declared.Read.the-variants.{Frame, Refused}
+use Rattle.frame_reading.specs.Reading.{readOf}
+use Rattle.frame_reading.specs.declared.Read.{Read}
+use Rattle.frame_reading.specs.declared.Read.the-variants.{Frame, Refused}
 use Rattle.station.specs.Rules.Calls.{Call, start, stop, tick, hear, ask, Verdict, refusedBy, taken, verdict}
 use Rattle.station.specs.Panel.History.{Step, stepOf, history, stateAfter, participates, isTick}
 use Rattle.station.specs.Rules.State.{never}

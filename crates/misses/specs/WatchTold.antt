@@ -8,8 +8,8 @@ use native.Mathlib.Omega.{arith}
 use lib.Dec.{leb}
 use borrow.Author.Tests.{leb-false}
 use Rattle.frame.specs.Codes.{isCyclic}
-use Rattle.reading.specs.Reading.{readOf}
-use Rattle.round_trip.specs.Accepted.{reads}
+use Rattle.frame_reading.specs.Reading.{readOf}
+use Rattle.frame_round_trip.specs.Accepted.{reads}
 use Rattle.station.specs.Outcomes.AskCases as on-asking
 use Rattle.station.specs.Rules.Calls.{Call, start, stop, tick, hear, ask, after, heardVerdict, askedVerdict}
 use Rattle.station.specs.Outcomes.HearCases as on-hearing

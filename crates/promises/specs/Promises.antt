@@ -17,16 +17,16 @@ use Rattle.area.specs.declared.Areas.{Areas}
 use Rattle.area.specs.declared.Part.{Part}
 use Rattle.block.specs.Blocks.{octetsOf, blocksOf, startOf, lengthOf}
 use Rattle.block.specs.Cut as cut
-use Rattle.boundary.specs.Crossing.{figureIn}
-use Rattle.answers.specs.declared.Answer.{Answer}
+use Rattle.boundary_core.specs.Crossing.{figureIn}
+use Rattle.boundary_answers.specs.declared.Answer.{Answer}
 use Rattle.cases.specs.Marked.{every, rules, holds, marked, marked-hold}
-use Rattle.decoding.specs.Gathering as decoded
-use Rattle.decoding.specs.Heard.{line-heard}
-use Rattle.decoding.specs.Line.{lineAnswer, pushedAll, bufferAll}
+use Rattle.decode_line.specs.Gathering as decoded
+use Rattle.decode_line.specs.Heard.{line-heard}
+use Rattle.decode_line.specs.Line.{lineAnswer, pushedAll, bufferAll}
 use Rattle.delivered.specs.Boxes.{Box, stationAt, Done}
 use Rattle.delivered.specs.Refusals.{Kept, refused-kept}
 use Rattle.delivered.specs.Rings.{Boxes, stationsIn, Runs, delivered-settles}
-use Rattle.feeding.specs.Lines as lines
+use Rattle.text_feeding.specs.Lines as lines
 use Rattle.frame.specs.Codes.{isToken, isCyclic}
 use Rattle.frame.specs.Octets.{octetAt}
 use Rattle.frame.specs.Refusals.{order}
@@ -39,9 +39,9 @@ use Rattle.misses.specs.MissesTold.{misses-told, struck-third}
 use Rattle.panel.specs.Panel.{textOf, shown}
 use Rattle.panel.specs.Texts.{shown-text}
 use Rattle.panel.specs.declared.Figure.the-variants.{Nothing}
-use Rattle.reading.specs.Reading.{readOf, isStation, dataSize}
-use Rattle.reading.specs.Reading as reading
-use Rattle.reading.specs.declared.Read.the-variants.{Frame}
+use Rattle.frame_reading.specs.Reading.{readOf, isStation, dataSize}
+use Rattle.frame_reading.specs.Reading as reading
+use Rattle.frame_reading.specs.declared.Read.the-variants.{Frame}
 use Rattle.refusals.specs.Applies.{applies, firstOf}
 use Rattle.refusals.specs.FirstApplies.{first-applies}
 use Rattle.replay_lines.specs.Output as replayed
@@ -50,8 +50,8 @@ use Rattle.ring.specs.Counts.{passes, silences, given, Does}
 use Rattle.ring.specs.Demand.{LastCall, Disturbed, RingSettles}
 use Rattle.ring.specs.DemandThree.{demand-three-whole}
 use Rattle.ring.specs.Events.{Stations, Event, afterEvent, AllName, CanCome}
-use Rattle.round_trip.specs.ReadBack.{Sendable, fields-read, data-read}
-use Rattle.round_trip.specs.WriteBack.{WrittenBack, written-back}
+use Rattle.frame_round_trip.specs.ReadBack.{Sendable, fields-read, data-read}
+use Rattle.frame_round_trip.specs.WriteBack.{WrittenBack, written-back}
 use Rattle.settle_print.specs.Joined.{handed, afterFills, printed-whole}
 use Rattle.settle_rest.specs.Rest.{printingOf, isOver}
 use Rattle.settle_rest.specs.Whole.{outputOf}
@@ -88,9 +88,9 @@ use Rattle.station.specs.declared.Phase.{Phase}
 use Rattle.station.specs.declared.Phase.the-variants.{Off, Listening, Startup, Joining, Participating}
 use Rattle.station.specs.declared.Station.{Station}
 use Rattle.station.specs.declared.Token.{Token}
-use Rattle.views.specs.Views.{stationsOf}
-use Rattle.views.specs.declared.Ring.{Ring}
-use Rattle.writing.specs.Writing.{frameOf, fixed}
+use Rattle.settle_views.specs.Views.{stationsOf}
+use Rattle.settle_views.specs.declared.Ring.{Ring}
+use Rattle.frame_writing.specs.Writing.{frameOf, fixed}
 
 -- THE FIRST PRINTED LINE: the refresh cycle on the front panel.
 

@@ -15,7 +15,7 @@ use Rattle.frame.specs.Refusals.{order}
 use Rattle.frame.specs.declared.Fields.{Fields}
 use Rattle.frame.specs.declared.Refusal.{Refusal}
 use Rattle.frame.specs.declared.Refusal.the-variants.{Cut, Mark, Length, Code, Address, Taken, Area, Block, Stranger, NotDue, Buffer}
-use Rattle.reading.specs.Reading.{marked, codeIn, fieldsOf, isStation}
+use Rattle.frame_reading.specs.Reading.{marked, codeIn, fieldsOf, isStation}
 use Rattle.station.specs.Rules.Asking.{dueIn}
 use Rattle.station.specs.Rules.Calls.{Call, start, stop, tick, hear, ask, Verdict, refusedBy, taken}
 use Rattle.station.specs.Rules.Hearing.{knows}

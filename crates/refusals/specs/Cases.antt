@@ -9,15 +9,15 @@ use Rattle.frame.specs.Positions.{TFL, TCD, C-SZ1, TBN}
 use Rattle.frame.specs.Refusals.{numberOf}
 use Rattle.members.specs.Listing.{listing}
 use Rattle.members.specs.Members.{noMembers}
-use Rattle.reading.specs.Reading.{fieldsOf}
-use Rattle.round_trip.specs.Sent.{blockFields, requestFields, triggerFields}
+use Rattle.frame_reading.specs.Reading.{fieldsOf}
+use Rattle.frame_round_trip.specs.Sent.{blockFields, requestFields, triggerFields}
 use Rattle.station.specs.Rules.Calls.{Call, start, stop, tick, hear, ask, Verdict, refusedBy, taken, verdict, after}
 use Rattle.station.specs.Rules.State.{fresh, stopped, begun}
 use Rattle.station.specs.declared.Phase.the-variants.{Listening}
 use Rattle.station.specs.declared.Settings.{Settings}
 use Rattle.station.specs.declared.Station.{Station}
 use Rattle.units.specs.declared.Milliseconds.{Milliseconds}
-use Rattle.writing.specs.Writing.{noAreas, frameOf, headerOf, frontOf, backOf, fixedFor}
+use Rattle.frame_writing.specs.Writing.{noAreas, frameOf, headerOf, frontOf, backOf, fixedFor}
 use Rattle.refusals.specs.Applies.{firstApplying}
 
 -- the number that a call is answered with, 0 where it is not refused

@@ -8,9 +8,9 @@ use lib.ListN.{length}
 use borrow.Author.Tests.{leb-true, leb-false, lt-ltb, le-ltb}
 use Rattle.frame.specs.declared.Refusal.{Refusal}
 use Rattle.frame.specs.declared.Refusal.the-variants as refusals
-use Rattle.reading.specs.Reading as reading
-use Rattle.reading.specs.declared.Read.{Read}
-use Rattle.reading.specs.declared.Read.the-variants.{Frame, Refused}
+use Rattle.frame_reading.specs.Reading as reading
+use Rattle.frame_reading.specs.declared.Read.{Read}
+use Rattle.frame_reading.specs.declared.Read.the-variants.{Frame, Refused}
 use Rattle.station.specs.Rules.Asking.{Asking}
 use Rattle.station.specs.Rules.Calls.{Call, start, stop, tick, hear, ask, Verdict, refusedBy, taken, verdict, switchedVerdict, heardVerdict, askedVerdict}
 use Rattle.station.specs.Rules.Hearing.{Hearing, lentRight, isTaken, isStranger, bodyHeard, headerHeard}

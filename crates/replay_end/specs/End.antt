@@ -3,8 +3,8 @@ use Prim.Native.Nat.{ℕ}
 use mathlib.Core.Bool.{cond}
 use mathlib.Core.List.{List, []}
 use lib.Dec.{ltb}
-use Rattle.input_line.specs.declared.Line.{Line}
-use Rattle.reply_words.specs.Answers.{badText}
+use Rattle.replay_input.specs.declared.Line.{Line}
+use Rattle.replay_reply_words.specs.Answers.{badText}
 
 -- what is answered to a line without its line feed, at the end of the input
 abbrev pub answerToRest : Line → List ℕ

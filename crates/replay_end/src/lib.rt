@@ -1,5 +1,5 @@
 // What is answered where the input of the program `replay` ends.
-use input_line::Line;
+use replay_input::Line;
 ghost use mathlib.Core.Path.{_≡_};
 ghost use lib.ListN.{length};
 ghost use Rattle.copying.specs.Pasted.{pasted};
@@ -11,7 +11,7 @@ pub fn put_rest(line: Line, text: &mut [u8; 40]) -> usize
     ensures { λ _. ⌜ now (text .exit) ≡ pasted (now (text .entry)) 0 (answerToRest line) ⌝ }
 {
     if 0 < line.count {
-        return reply_words::put_bad(text);
+        return replay_reply_words::put_bad(text);
     }
     0
 }

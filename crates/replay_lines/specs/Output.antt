@@ -8,15 +8,15 @@ use native.Mathlib.Omega.{arith}
 use lib.Dec.{leb, ltb}
 use lib.ListN.{length, set, length-set}
 use borrow.Author.Tests.{lt-ltb}
-use Rattle.commands.specs.Commands.{commandOf}
+use Rattle.replay_commands.specs.Commands.{commandOf}
 use Rattle.text_scanning.specs.Scanning.{NoFeed}
-use Rattle.feeding.specs.Feeding as feeding
-use Rattle.feeding.specs.Lines.{parted, Meaning, afterAll, repliesTo, Meant, Came, text-came}
-use Rattle.input_line.specs.Gathering.{longest, fresh, pushed, pushedAll, bufferAll}
-use Rattle.input_line.specs.declared.Line.{Line}
-use Rattle.replaying.specs.Lines.{line-performed}
-use Rattle.replaying.specs.Replaying.{Kept, Performed, performed}
-use Rattle.reply_words.specs.Answers.{badText}
+use Rattle.text_feeding.specs.Feeding as feeding
+use Rattle.text_feeding.specs.Lines.{parted, Meaning, afterAll, repliesTo, Meant, Came, text-came}
+use Rattle.replay_input.specs.Gathering.{longest, fresh, pushed, pushedAll, bufferAll}
+use Rattle.replay_input.specs.declared.Line.{Line}
+use Rattle.replay_performing.specs.Lines.{line-performed}
+use Rattle.replay_performing.specs.Replaying.{Kept, Performed, performed}
+use Rattle.replay_reply_words.specs.Answers.{badText}
 use Rattle.text_hexadecimal.specs.Octets.{isHexadecimal}
 use Rattle.replay_end.specs.End.{answerToRest}
 use Rattle.replay_lines.specs.Replay.{Carried, carried, lineDone, replay, after, start, outputOf}

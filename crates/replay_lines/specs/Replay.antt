@@ -3,12 +3,12 @@ use Prim.Native.Nat.{ℕ}
 use mathlib.Core.Path.{_≡_}
 use mathlib.Core.List.{List, _++_}
 use lib.ListN.{set, replicate}
-use Rattle.commands.specs.Commands.{commandIn}
-use Rattle.feeding.specs.Feeding.{Program, fedAll, answeredAll}
-use Rattle.input_line.specs.Gathering.{fresh, pushed}
-use Rattle.input_line.specs.declared.Line.{Line}
+use Rattle.replay_commands.specs.Commands.{commandIn}
+use Rattle.text_feeding.specs.Feeding.{Program, fedAll, answeredAll}
+use Rattle.replay_input.specs.Gathering.{fresh, pushed}
+use Rattle.replay_input.specs.declared.Line.{Line}
 use Rattle.replay_end.specs.End.{answerToRest}
-use Rattle.replaying.specs.Replaying.{Kept, keeping, Performed, performed}
+use Rattle.replay_performing.specs.Replaying.{Kept, keeping, Performed, performed}
 use Rattle.station.specs.Rules.State.{never}
 use Rattle.station.specs.declared.Station.{Station}
 

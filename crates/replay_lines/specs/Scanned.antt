@@ -3,15 +3,15 @@ use mathlib.Core.Path.{_≡_, refl}
 use mathlib.Core.List.{List, [], _∷_}
 use Prim.Native.Nat.{ℕ}
 use lib.ListN.{drop, set}
-use Rattle.feeding.specs.Feeding as feeding
-use Rattle.feeding.specs.Cut.{Cut, feed, clean, cut}
-use Rattle.feeding.specs.Scan.{Scan, scan-feed, scan-clean}
-use Rattle.input_line.specs.Gathering.{pushed, made, scanned, bufferScanned, pushedAll, bufferAll}
+use Rattle.text_feeding.specs.Feeding as feeding
+use Rattle.text_feeding.specs.Cut.{Cut, feed, clean, cut}
+use Rattle.text_feeding.specs.Scan.{Scan, scan-feed, scan-clean}
+use Rattle.replay_input.specs.Gathering.{pushed, made, scanned, bufferScanned, pushedAll, bufferAll}
 use Rattle.text_scanning.specs.Scans.{scan-part, buffer-part, scan-line, buffer-line}
-use Rattle.input_line.specs.Gathering as input
-use Rattle.input_line.specs.declared.Line.{Line}
-use Rattle.input_line.specs.declared.Scanned.{Scanned}
-use Rattle.replaying.specs.Replaying.{Kept}
+use Rattle.replay_input.specs.Gathering as input
+use Rattle.replay_input.specs.declared.Line.{Line}
+use Rattle.replay_input.specs.declared.Scanned.{Scanned}
+use Rattle.replay_performing.specs.Replaying.{Kept}
 use Rattle.replay_lines.specs.Replay.{carried, replay}
 
 -- the line and what is stored of it are pushed octet by octet, and nothing else changes

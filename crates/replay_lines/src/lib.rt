@@ -1,13 +1,13 @@
 // The input of the program `replay`, taken line by line: what the octets of a part do to a station and its buffers, and what is answered.
-use input_line::Line;
-use replaying::Reply;
+use replay_input::Line;
+use replay_performing::Reply;
 use station::Station;
 ghost use mathlib.Core.Path.{_≡_};
 ghost use Prim.Native.Nat.{_<_};
 ghost use lib.ListN.{length};
 ghost use Rattle.copying.specs.Pasted.{pasted};
-ghost use Rattle.feeding.specs.Feeding.{between, ended, Forward};
-ghost use Rattle.replaying.specs.Replaying.{keeping};
+ghost use Rattle.text_feeding.specs.Feeding.{between, ended, Forward};
+ghost use Rattle.replay_performing.specs.Replaying.{keeping};
 ghost use Rattle.replay_lines.specs.Replay.{held, lineDone, after, answers};
 
 // The station, the line so far, the place in the part of the input that is being read, and whether to go on.
@@ -43,8 +43,8 @@ fn perform_line(
     ensures { λ r. ⌜ r .length ≡ length (lineDone (held station line (now (stored .entry)) (now (memory .entry)) (now (assembly .entry)) (now (turn .entry)) (now (frame .entry))) .line) ⌝ }
     ensures { λ _. ⌜ now (answer .exit) ≡ pasted (now (answer .entry)) 0 (lineDone (held station line (now (stored .entry)) (now (memory .entry)) (now (assembly .entry)) (now (turn .entry)) (now (frame .entry))) .line) ⌝ }
 {
-    let command = commands::command_of(line, stored);
-    replaying::perform(
+    let command = replay_commands::command_of(line, stored);
+    replay_performing::perform(
         command,
         stored,
         station,
@@ -74,13 +74,13 @@ pub fn take_next(
     ensures { λ r. ⌜ (going .at < length (now (part .entry)) → Forward (now (part .entry)) (going .at) (r .at)) ⌝ }
 {
     let station = going.station;
-    let scanned = input_line::scan(going.line, part, going.at, stored);
+    let scanned = replay_input::scan(going.line, part, going.at, stored);
     let rest = scanned.line;
     let to = scanned.next;
     if scanned.ended {
         let reply = perform_line(station, rest, stored, memory, assembly, turn, frame, answer);
         let done = reply.station;
-        let fresh = input_line::begin();
+        let fresh = replay_input::begin();
         return Next {
             station: done,
             line: fresh,

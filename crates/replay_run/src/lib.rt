@@ -1,6 +1,6 @@
 // Drives one station from text: one command a line on standard input, one answer a line on standard output. What a line means, what it does
 // and what is answered is decided by the library replay_lines; here the input is only handed to it, part by part.
-use input_line::Line;
+use replay_input::Line;
 use libc::STDOUT_FILENO;
 use replay_lines::Going;
 use station::Station;
@@ -8,8 +8,8 @@ ghost use mathlib.Core.Path.{_≡_};
 ghost use mathlib.Core.List.{List};
 ghost use Prim.Native.Nat.{ℕ, _<_};
 ghost use lib.ListN.{length, take};
-ghost use Rattle.feeding.specs.Feeding.{between, Onward, Taken, Arrived};
-ghost use Rattle.input_line.specs.Gathering.{fresh};
+ghost use Rattle.text_feeding.specs.Feeding.{between, Onward, Taken, Arrived};
+ghost use Rattle.replay_input.specs.Gathering.{fresh};
 ghost use Rattle.replay_end.specs.End.{answerToRest};
 ghost use Rattle.replay_lines.specs.Replay.{held, after, Answering, start};
 ghost use Rattle.station.specs.Rules.State.{never};
@@ -107,7 +107,7 @@ fn replay_some(
     ensures { λ r. ⌜ held (r .station) (r .line) (now (stored .exit)) (now (memory .exit)) (now (assembly .exit)) (now (turn .exit)) (now (frame .exit)) ≡ after (held station line (now (stored .entry)) (now (memory .entry)) (now (assembly .entry)) (now (turn .entry)) (now (frame .entry))) (take (r .at) (now (part .exit))) ⌝ }
     ensures { λ r. ⌜ Arrived (now (part .exit)) (r .at) (r .on) ⌝ }
 {
-    let read = feeding::read_some(part);
+    let read = text_feeding::read_some(part);
     let mut going = replay_part(
         station,
         line,
@@ -134,8 +134,8 @@ fn replay_all(
     ensures { λ r. ⌜ ((input : List ℕ) × (held (r .station) (r .line) (now (stored .exit)) (now (memory .exit)) (now (assembly .exit)) (now (turn .exit)) (now (frame .exit)) ≡ after (held never fresh (now (stored .entry)) (now (memory .entry)) (now (assembly .entry)) (now (turn .entry)) (now (frame .entry))) input)) ⌝ }
 {
     let mut going = Going {
-        station: states::never(),
-        line: input_line::begin(),
+        station: phases::never(),
+        line: replay_input::begin(),
         at: 0,
         on: true,
     };

@@ -12,7 +12,7 @@ use Rattle.frame.specs.declared.Fields.{Fields}
 use Rattle.members.specs.Members.{cleared}
 use Rattle.misses.specs.CoverThird.{brought-more}
 use Rattle.misses.specs.MissHistory.{Brought}
-use Rattle.reading.specs.Reading.{isStation, dataOf}
+use Rattle.frame_reading.specs.Reading.{isStation, dataOf}
 use Rattle.settling.specs.Ring.{_∈_, next, viewAfterPass}
 use Rattle.station.specs.Rules.Asking as asking
 use Rattle.station.specs.Rules.Calls.{hear, ask}
@@ -23,7 +23,7 @@ use Rattle.station.specs.declared.Asked.{Asked}
 use Rattle.station.specs.declared.Asked.the-variants as answers
 use Rattle.station.specs.declared.Settings.{Settings}
 use Rattle.station.specs.declared.Station.{Station}
-use Rattle.writing.specs.Writing.{wholeLength}
+use Rattle.frame_writing.specs.Writing.{wholeLength}
 use Rattle.ring.specs.Counts.{tokenTo, givenBy, gives, Does, passed, nothing}
 use Rattle.ring.specs.Events.{Stations, Lent, Event, asked, handed, afterEvent, CanCome}
 use Rattle.ring.specs.Hears.{accepts}

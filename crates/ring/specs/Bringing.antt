@@ -11,8 +11,8 @@ use borrow.Author.Tests.{ltb-true, le-leb}
 use Rattle.block.specs.Blocks.{startOf}
 use Rattle.frame.specs.declared.Fields.{Fields}
 use Rattle.frame.specs.declared.Refusal.the-variants as refusals
-use Rattle.reading.specs.Reading.{fieldsOf}
-use Rattle.round_trip.specs.Sent.{blockFields}
+use Rattle.frame_reading.specs.Reading.{fieldsOf}
+use Rattle.frame_round_trip.specs.Sent.{blockFields}
 use Rattle.settling.specs.Next.{ascending-cons}
 use Rattle.settling.specs.Ring.{_∈_, Stations as Ascending}
 use Rattle.station.specs.Rules.Asking.{askOf, dueFields, dueIn, lentRight, nextBlock, nextStation, refused, turnAfter, written}
@@ -24,7 +24,7 @@ use Rattle.station.specs.declared.Phase.the-variants.{Participating}
 use Rattle.station.specs.declared.Settings.{Settings}
 use Rattle.station.specs.declared.Station.{Station}
 use Rattle.units.specs.declared.Milliseconds.{Milliseconds}
-use Rattle.writing.specs.Writing.{noAreas, frameOf, outputOf, headerOf, frontOf, backOf, fixedFor}
+use Rattle.frame_writing.specs.Writing.{noAreas, frameOf, outputOf, headerOf, frontOf, backOf, fixedFor}
 use Rattle.ring.specs.Demand.{LastCall, sent, heard}
 
 -- all stations have no areas, so that a turn is one block, and a watch time of 1 ms, so that a silence comes in ten ticks

@@ -7,9 +7,9 @@ use Prim.Native.Nat.{ℕ, _+_}
 use lib.Dec.{eqb}
 use lib.ListN.{length, take}
 use Rattle.frame.specs.Codes.{isToken}
-use Rattle.reading.specs.Reading.{readOf}
-use Rattle.reading.specs.declared.Read.{Read}
-use Rattle.reading.specs.declared.Read.the-variants as read
+use Rattle.frame_reading.specs.Reading.{readOf}
+use Rattle.frame_reading.specs.declared.Read.{Read}
+use Rattle.frame_reading.specs.declared.Read.the-variants as read
 use Rattle.settling.specs.Ring.{_∈_, next, viewAfterPass}
 use Rattle.station.specs.Rules.Asking.{askOf}
 use Rattle.station.specs.declared.Asked.{Asked}

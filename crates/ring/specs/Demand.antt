@@ -7,8 +7,8 @@ use lib.ListN.{length, take}
 use Rattle.frame.specs.Codes.{isToken}
 use Rattle.frame.specs.declared.Fields.{Fields}
 use Rattle.members.specs.Members.{ringOf}
-use Rattle.reading.specs.Reading.{readOf}
-use Rattle.reading.specs.declared.Read.the-variants.{Frame}
+use Rattle.frame_reading.specs.Reading.{readOf}
+use Rattle.frame_reading.specs.declared.Read.the-variants.{Frame}
 use Rattle.settling.specs.Ring.{_∈_, Stations as Ascending}
 use Rattle.settling.specs.Steps.{afterAll, EachFinds}
 use Rattle.station.specs.Rules.Asking.{askOf}

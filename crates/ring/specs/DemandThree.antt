@@ -4,7 +4,7 @@ use mathlib.Core.Bool.{true, false}
 use mathlib.Core.List.{List}
 use Prim.Native.Nat.{ℕ}
 use Rattle.misses.specs.CoverThird.{reached-brought}
-use Rattle.reading.specs.Reading.{isStation}
+use Rattle.frame_reading.specs.Reading.{isStation}
 use Rattle.settling.specs.First.{FirstAgreement, first-exists, agreed?}
 use Rattle.settling.specs.Ring.{_∈_}
 use Rattle.settling.specs.Steps.{EachFinds}

@@ -10,8 +10,8 @@ use Rattle.frame.specs.declared.Code.the-variants.{Request}
 use Rattle.frame.specs.declared.Fields.{Fields}
 use Rattle.frame.specs.declared.Refusal.{Refusal}
 use Rattle.misses.specs.MissHistory.{ThirdRunning}
-use Rattle.reading.specs.Reading.{readOf}
-use Rattle.reading.specs.declared.Read.the-variants.{Frame}
+use Rattle.frame_reading.specs.Reading.{readOf}
+use Rattle.frame_reading.specs.declared.Read.the-variants.{Frame}
 use Rattle.settling.specs.Ring.{_∈_, Agreed}
 use Rattle.station.specs.Rules.Asking as asking
 use Rattle.station.specs.Rules.Calls.{Call, start, hear, after, refusedBy, verdict}

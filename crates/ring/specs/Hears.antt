@@ -8,8 +8,8 @@ use lib.Dec.{eqb}
 use borrow.Author.Tests.{eq-eqb}
 use Rattle.frame.specs.Codes.{isCyclic}
 use Rattle.frame.specs.declared.Fields.{Fields}
-use Rattle.reading.specs.Reading.{readOf, dataOf}
-use Rattle.reading.specs.declared.Read.the-variants.{Frame}
+use Rattle.frame_reading.specs.Reading.{readOf, dataOf}
+use Rattle.frame_reading.specs.declared.Read.the-variants.{Frame}
 use Rattle.settling.specs.Ring.{_∈_}
 use Rattle.station.specs.Frames.FrameAccepted as heard
 use Rattle.station.specs.Rules.Data.{gathered}

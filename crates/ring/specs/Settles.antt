@@ -6,7 +6,7 @@ use Prim.Native.Nat.{ℕ, _<_}
 use native.Mathlib.Omega.{arith}
 use lib.ListN.{length}
 use Rattle.members.specs.Members.{firstOf}
-use Rattle.reading.specs.Reading.{isStation}
+use Rattle.frame_reading.specs.Reading.{isStation}
 use Rattle.settling.specs.Append.{finds-front, finds-back}
 use Rattle.settling.specs.First.{FirstAgreement}
 use Rattle.settling.specs.Next.{laws-of}

@@ -14,10 +14,10 @@ use Rattle.frame.specs.declared.Code.the-variants.{Token, Cyclic}
 use Rattle.frame.specs.declared.Fields.{Fields}
 use Rattle.frame.specs.declared.Refusal.the-variants as refusals
 use Rattle.misses.specs.MissHistory.{Brought}
-use Rattle.reading.specs.Reading.{isStation, readOf}
-use Rattle.reading.specs.declared.Read.the-variants.{Frame}
+use Rattle.frame_reading.specs.Reading.{isStation, readOf}
+use Rattle.frame_reading.specs.declared.Read.the-variants.{Frame}
 use Rattle.settling.specs.Ring.{_∈_, next}
-use Rattle.writing.specs.Writing.{wholeLength}
+use Rattle.frame_writing.specs.Writing.{wholeLength}
 use Rattle.station.specs.Frames.Asked.{CanSend, asked-back}
 use Rattle.station.specs.Rules.Asking as asking
 use Rattle.station.specs.Rules.State.{holds}

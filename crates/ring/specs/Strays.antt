@@ -11,9 +11,9 @@ use Rattle.frame.specs.declared.Code.the-variants.{Request}
 use Rattle.frame.specs.declared.Fields.{Fields}
 use Rattle.misses.specs.CoverThird.{brought-more}
 use Rattle.misses.specs.MissHistory.{Brought}
-use Rattle.reading.specs.Reading.{readOf}
-use Rattle.reading.specs.declared.Read.the-variants.{Frame}
-use Rattle.round_trip.specs.Accepted.{reads}
+use Rattle.frame_reading.specs.Reading.{readOf}
+use Rattle.frame_reading.specs.declared.Read.the-variants.{Frame}
+use Rattle.frame_round_trip.specs.Accepted.{reads}
 use Rattle.settling.specs.Ring.{_∈_}
 use Rattle.station.specs.Rules.Calls.{Call, start, after, refusedBy, verdict}
 use Rattle.station.specs.Outcomes.HearCases as on-hearing

@@ -11,7 +11,7 @@ use borrow.Author.Tests.{eqb-false}
 use Rattle.laws.specs.Tests.{first, second, implied}
 use Rattle.misses.specs.CoverThird.{brought-more, reached-brought, strikesInView, cover-third}
 use Rattle.misses.specs.MissHistory.{Brought}
-use Rattle.reading.specs.Reading.{fieldsOf, readOf, isStation}
+use Rattle.frame_reading.specs.Reading.{fieldsOf, readOf, isStation}
 use Rattle.settling.specs.First.{FirstAgreement}
 use Rattle.settling.specs.Ring.{_∈_}
 use Rattle.settling.specs.Steps.{afterAll, EachFinds}
@@ -19,7 +19,7 @@ use Rattle.station.specs.Rules.Calls.{tick}
 use Rattle.station.specs.Rules.State.{isParticipating, holds}
 use Rattle.station.specs.Rules.Ticking.{watchEnds}
 use Rattle.station.specs.declared.Station.{Station}
-use Rattle.writing.specs.Writing.{headerOf, frontOf, backOf, fixedFor}
+use Rattle.frame_writing.specs.Writing.{headerOf, frontOf, backOf, fixedFor}
 use Rattle.ring.specs.Bringing.{tokenOctets, one, two, three, one-reached, two-reached, three-reached, one-heard, three-heard, numbers, ascending, at-1, at-2, at-3, each}
 use Rattle.ring.specs.Counts.{passes, silences}
 use Rattle.ring.specs.Demand.{Disturbed, RingSettles}

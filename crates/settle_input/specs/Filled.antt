@@ -10,9 +10,9 @@ use borrow.Author.Tests.{eq-eqb, ne-eqb, lt-ltb, le-ltb}
 use lib.Dec.{eqb}
 use lib.ListN.{length, getD, set, replicate, length-set, getD-replicate, List·getD-eq-default}
 use lib.Seq.{getD-set-same, getD-set-other}
-use Rattle.views.specs.Views.{stationsFrom, stationsOf, viewsOf, member, firstUnlisted, unlistedIn}
-use Rattle.views.specs.Proper.{listed-member}
-use Rattle.views.specs.declared.Ring.{Ring}
+use Rattle.settle_views.specs.Views.{stationsFrom, stationsOf, viewsOf, member, firstUnlisted, unlistedIn}
+use Rattle.settle_views.specs.Proper.{listed-member}
+use Rattle.settle_views.specs.declared.Ring.{Ring}
 use Rattle.settle_input.specs.Input.{linesOf, stationIn, viewIn, formsFrom, formsOf, unlistedFrom, unlistedOf}
 use Rattle.settle_input.specs.Short.{formed, station-most}
 

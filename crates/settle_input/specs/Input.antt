@@ -8,8 +8,8 @@ use Rattle.text.specs.Lines.{comma, lineFeed}
 use Rattle.text_reading.specs.Marks.{before, upTo, behind, has}
 use Rattle.text_reading.specs.Parts.{inFront}
 use Rattle.text_reading.specs.Values.{decimalIn, numberOr}
-use Rattle.views.specs.Views.{member}
-use Rattle.views.specs.declared.Ring.{Ring}
+use Rattle.settle_views.specs.Views.{member}
+use Rattle.settle_views.specs.declared.Ring.{Ring}
 use Rattle.settle_input.specs.declared.Entry.{Entry}
 use Rattle.settle_input.specs.declared.Forms.{Forms}
 use Rattle.settle_input.specs.declared.Reading.{Reading}

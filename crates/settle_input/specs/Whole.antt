@@ -8,8 +8,8 @@ use native.Mathlib.Omega.{arith}
 use borrow.Author.Tests.{eqb-true, eqb-false}
 use lib.Dec.{eqb}
 use lib.ListN.{length}
-use Rattle.views.specs.Views.{stationsOf, viewsOf, unlistedIn}
-use Rattle.views.specs.declared.Ring.{Ring}
+use Rattle.settle_views.specs.Views.{stationsOf, viewsOf, unlistedIn}
+use Rattle.settle_views.specs.declared.Ring.{Ring}
 use Rattle.settle_input.specs.declared.Verdict.the-variants as verdicts
 use Rattle.settle_input.specs.Input.{linesOf, stationIn, viewIn, formsOf, unlistedOf, readOf}
 use Rattle.settle_input.specs.Filled.{noViews, Filled, filled-forms, forms-stations, unlisted-line}

@@ -2,7 +2,7 @@
 use text_reading::Value;
 use text_reading::decimal_in;
 use text_reading::place_of;
-use views::Ring;
+use settle_views::Ring;
 ghost use mathlib.Core.Path.{_≡_};
 ghost use Prim.Native.Nat.{_<_};
 ghost use lib.ListN.{length};
@@ -157,7 +157,7 @@ pub fn read_ring(input: &[u8]) -> Reading
         return bad_line(forms.bad);
     }
     let ring = forms.ring;
-    let unlisted = views::first_unlisted(ring);
+    let unlisted = settle_views::first_unlisted(ring);
     if unlisted != 0 {
         return bad_line(unlisted);
     }

@@ -8,7 +8,7 @@ use borrow.Author.Tests.{lt-ltb, le-ltb}
 use lib.Dec.{eqb}
 use lib.ListN.{drop}
 use Rattle.settling.specs.Ring.{firstAbove, next}
-use Rattle.views.specs.Views.{stationsFrom}
+use Rattle.settle_views.specs.Views.{stationsFrom}
 use Rattle.settle_moves.specs.Moves.{firstListed}
 
 -- the first number of a list, or x if the list is empty

@@ -8,10 +8,10 @@ use Rattle.settling.specs.Ring.{_∈_, Views, Within, Event, pass, silence, mov
 use Rattle.settling.specs.Same.{Same}
 use Rattle.settling.specs.Next.{laws-of}
 use Rattle.settling.specs.Moves.{within-stays}
-use Rattle.views.specs.Views.{stationsOf, viewsOf}
-use Rattle.views.specs.Listed.{stations-kept, ascending}
-use Rattle.views.specs.Proper.{Proper, station-view, view-station, not-zero}
-use Rattle.views.specs.declared.Ring.{Ring}
+use Rattle.settle_views.specs.Views.{stationsOf, viewsOf}
+use Rattle.settle_views.specs.Listed.{stations-kept, ascending}
+use Rattle.settle_views.specs.Proper.{Proper, station-view, view-station, not-zero}
+use Rattle.settle_views.specs.declared.Ring.{Ring}
 use Rattle.settle_moves.specs.Moves.{viewAfter, moved}
 
 -- what happens to one view is what `move` does to the views of all

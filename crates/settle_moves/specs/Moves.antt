@@ -4,8 +4,8 @@ use mathlib.Core.List.{List, [], _∷_, map}
 use Prim.Native.Nat.{ℕ, suc, min}
 use lib.Dec.{eqb}
 use Rattle.settling.specs.Ring.{Event, move}
-use Rattle.views.specs.Views.{stationsOf}
-use Rattle.views.specs.declared.Ring.{Ring}
+use Rattle.settle_views.specs.Views.{stationsOf}
+use Rattle.settle_views.specs.declared.Ring.{Ring}
 
 -- the first listed station among views that start at the station `number`, or `otherwise` where there is none
 abbrev pub firstListed : ℕ → List ℕ → ℕ → ℕ

@@ -6,7 +6,7 @@ use lib.Dec.{ltb}
 use lib.ListN.{length}
 use Rattle.copying.specs.Pasted.{pasted}
 use Rattle.text.specs.Lines.{lineOf}
-use Rattle.views.specs.Views.{stationsOf, viewsOf, differentViews}
+use Rattle.settle_views.specs.Views.{stationsOf, viewsOf, differentViews}
 use Rattle.settle_run.specs.Run.{letterOf}
 use Rattle.settle_run.specs.declared.Settled.{Settled}
 use Rattle.settle_run.specs.declared.Stepped.{Stepped}

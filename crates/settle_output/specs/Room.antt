@@ -5,7 +5,7 @@ use native.Mathlib.Omega.{arith}
 use lib.ListN.{length, length-append}
 use Rattle.text.specs.Lines.{lineFeed, numbersOf, lineOf}
 use Rattle.text.specs.LineLaws.{numbers-length}
-use Rattle.views.specs.Views.{stationsOf, viewsOf, differentViews}
+use Rattle.settle_views.specs.Views.{stationsOf, viewsOf, differentViews}
 use Rattle.settle_run.specs.Run.{letterOf}
 use Rattle.settle_run.specs.declared.Settled.{Settled}
 use Rattle.settle_run.specs.declared.Stepped.{Stepped}

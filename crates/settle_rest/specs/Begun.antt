@@ -5,7 +5,7 @@ use Prim.Native.Nat.{ℕ}
 use Rattle.settle_input.specs.Input.{readOf}
 use Rattle.settle_input.specs.declared.Verdict.{Verdict}
 use Rattle.settle_input.specs.declared.Verdict.the-variants as verdicts
-use Rattle.views.specs.declared.Ring.{Ring}
+use Rattle.settle_views.specs.declared.Ring.{Ring}
 use Rattle.settle_rest.specs.Whole.{answerLines, outputOf}
 use Rattle.settle_rest.specs.Rest.{restOf, stageOf, printingFor, printingOf}
 

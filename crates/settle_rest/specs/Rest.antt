@@ -2,7 +2,7 @@
 use mathlib.Core.Bool.{Bool, true, false}
 use mathlib.Core.List.{List, [], _++_}
 use Prim.Native.Nat.{ℕ, zero, suc, _+_, _-_, min}
-use Rattle.views.specs.declared.Ring.{Ring}
+use Rattle.settle_views.specs.declared.Ring.{Ring}
 use Rattle.settle_run.specs.Run.{steppedOf, settledOf}
 use Rattle.settle_input.specs.Input.{readOf}
 use Rattle.settle_input.specs.declared.Verdict.{Verdict}

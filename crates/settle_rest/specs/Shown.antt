@@ -3,7 +3,7 @@ use mathlib.Core.Path.{_≡_, ap, sym, _∙_}
 use mathlib.Core.List.{List, _++_, append-assoc}
 use Prim.Native.Nat.{ℕ, zero, suc, _+_, _-_, _≤_, min}
 use native.Mathlib.Omega.{arith}
-use Rattle.views.specs.declared.Ring.{Ring}
+use Rattle.settle_views.specs.declared.Ring.{Ring}
 use Rattle.settle_output.specs.Output.{stepLine, settledLine}
 use Rattle.settle_run.specs.Run.{steppedOf}
 use Rattle.settle_rest.specs.Whole.{stepLines}

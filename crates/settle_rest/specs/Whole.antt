@@ -3,7 +3,7 @@ use mathlib.Core.Path.{_≡_, refl}
 use mathlib.Core.List.{List, [], _∷_, _++_}
 use Prim.Native.Nat.{ℕ, zero, suc, _+_}
 use Rattle.text.specs.Decimal.{decimalAt}
-use Rattle.views.specs.declared.Ring.{Ring}
+use Rattle.settle_views.specs.declared.Ring.{Ring}
 use Rattle.settle_run.specs.Run.{runFrom, steppedOf, settledOf}
 use Rattle.settle_input.specs.Input.{linesOf, entryOf, formsFrom, readOf}
 use Rattle.settle_input.specs.declared.Verdict.{Verdict}

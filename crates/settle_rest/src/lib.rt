@@ -1,7 +1,7 @@
 // What `settle` has still to print.
 use settle_input::Verdict;
 use settle_run::Settled;
-use views::Ring;
+use settle_views::Ring;
 ghost use mathlib.Core.Path.{_≡_};
 ghost use Rattle.settle_rest.specs.Rest.{stageOf, printingOf, isOver, ringAfter, shortened};
 

@@ -10,9 +10,9 @@ use lib.ListN.{length}
 use Rattle.settling.specs.Steps.{afterAll}
 use Rattle.settling.specs.Ring.{Event, pass, silence, passes, silences}
 use Rattle.settle_moves.specs.Moves.{moved}
-use Rattle.views.specs.Views.{stationsOf, viewsOf, differentViews}
-use Rattle.views.specs.Listed.{few-stations}
-use Rattle.views.specs.declared.Ring.{Ring}
+use Rattle.settle_views.specs.Views.{stationsOf, viewsOf, differentViews}
+use Rattle.settle_views.specs.Listed.{few-stations}
+use Rattle.settle_views.specs.declared.Ring.{Ring}
 use Rattle.settle_run.specs.Run.{eventIn, steppedBy, steppedOf, agreedIn, over, runFrom, isRing, limitOf, runOf, settledOf}
 use Rattle.settle_run.specs.declared.Kind.the-variants.{Pass, Silence}
 use Rattle.settle_run.specs.declared.Settled.{Settled}

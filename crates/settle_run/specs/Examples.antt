@@ -3,7 +3,7 @@ use mathlib.Core.Path.{_≡_, refl}
 use mathlib.Core.List.{[], _∷_, _++_}
 use lib.ListN.{replicate}
 use Rattle.settling.specs.Ring.{pass, silence}
-use Rattle.views.specs.declared.Ring.{Ring}
+use Rattle.settle_views.specs.declared.Ring.{Ring}
 use Rattle.settle_run.specs.Run.{runFrom, runOf}
 
 -- the stations 1, 2, 3 with the views 3, 3, 1

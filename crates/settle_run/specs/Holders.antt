@@ -7,7 +7,7 @@ use native.Mathlib.Omega.{arith}
 use borrow.Author.Tests.{eqb-true, eqb-false}
 use lib.Dec.{eqb}
 use Rattle.settling.specs.Ring.{_∈_, Ascending, Views, Holds, pass, silence, Legal}
-use Rattle.views.specs.Views.{smallestHolder}
+use Rattle.settle_views.specs.Views.{smallestHolder}
 use Rattle.settle_run.specs.Run.{passBy}
 
 module _ (views : Views) where

@@ -8,8 +8,8 @@ use lib.ListN.{length}
 use Rattle.settling.specs.Steps.{afterAll}
 use Rattle.settling.specs.Ring.{next, Event, pass, silence, passes, silences}
 use Rattle.settle_moves.specs.Moves.{moved}
-use Rattle.views.specs.Views.{stationsOf, viewsOf, smallestHolder, differentViews, unlistedIn}
-use Rattle.views.specs.declared.Ring.{Ring}
+use Rattle.settle_views.specs.Views.{stationsOf, viewsOf, smallestHolder, differentViews, unlistedIn}
+use Rattle.settle_views.specs.declared.Ring.{Ring}
 use Rattle.settle_run.specs.declared.Kind.{Kind}
 use Rattle.settle_run.specs.declared.Kind.the-variants.{Pass, Silence}
 use Rattle.settle_run.specs.declared.Settled.{Settled}

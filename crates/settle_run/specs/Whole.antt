@@ -20,11 +20,11 @@ use Rattle.settling.specs.First.{FirstAgreement}
 use Rattle.settling.specs.Settling.{Settles, settles, square}
 use Rattle.settle_moves.specs.Moved.{moved-stations, moved-views, moved-proper}
 use Rattle.settle_moves.specs.Moves.{moved}
-use Rattle.views.specs.Views.{stationsOf, viewsOf, differentViews, unlistedIn}
-use Rattle.views.specs.Listed.{ascending}
-use Rattle.views.specs.Agreement.{one-agreed, agreed-one, some-view}
-use Rattle.views.specs.Proper.{Proper, proper, not-zero}
-use Rattle.views.specs.declared.Ring.{Ring}
+use Rattle.settle_views.specs.Views.{stationsOf, viewsOf, differentViews, unlistedIn}
+use Rattle.settle_views.specs.Listed.{ascending}
+use Rattle.settle_views.specs.Agreement.{one-agreed, agreed-one, some-view}
+use Rattle.settle_views.specs.Proper.{Proper, proper, not-zero}
+use Rattle.settle_views.specs.declared.Ring.{Ring}
 use Rattle.settle_run.specs.Run.{eventIn, agreedIn, runFrom, isRing, limitOf, runOf, settledOf, Bounded}
 use Rattle.settle_run.specs.Holders.{step-legal}
 

@@ -1,8 +1,8 @@
 // The run that `settle` makes: one step of it, and the whole with both counts.
-use views::Ring;
+use settle_views::Ring;
 ghost use mathlib.Core.Path.{_≡_};
 ghost use lib.ListN.{length};
-ghost use Rattle.views.specs.Views.{stationsOf};
+ghost use Rattle.settle_views.specs.Views.{stationsOf};
 ghost use Rattle.settle_run.specs.Run.{steppedOf, isRing, limitOf, over, settledOf, Bounded};
 
 // What a step is, by the letter of its output line.
@@ -29,7 +29,7 @@ pub struct Settled {
 pub fn step(ring: Ring) -> Stepped
     ensures { λ r. ⌜ r ≡ steppedOf ring ⌝ }
 {
-    let holder = views::smallest_holder(ring);
+    let holder = settle_views::smallest_holder(ring);
     if holder == 0 {
         let moved = settle_moves::silence_in(ring);
         return Stepped {
@@ -52,21 +52,21 @@ pub fn step(ring: Ring) -> Stepped
 fn is_ring(ring: Ring) -> bool
     ensures { λ r. ⌜ r ≡ isRing ring ⌝ }
 {
-    (views::first_unlisted(ring) == 0) & (ring.views[0] == 0)
+    (settle_views::first_unlisted(ring) == 0) & (ring.views[0] == 0)
 }
 
 // How many steps a run is given.
 fn limit(ring: Ring) -> u32
     ensures { λ r. ⌜ r ≡ limitOf ring ⌝ }
 {
-    let count = views::stations(ring);
+    let count = settle_views::stations(ring);
     if is_ring(ring) { count * count } else { 0 }
 }
 
 fn is_over(ring: Ring, left: u32) -> bool
     ensures { λ r. ⌜ r ≡ over ring left ⌝ }
 {
-    (left == 0) | (views::different_views(ring) <= 1)
+    (left == 0) | (settle_views::different_views(ring) <= 1)
 }
 
 pub fn settle(ring: Ring) -> Settled
@@ -91,6 +91,6 @@ pub fn settle(ring: Ring) -> Settled
     Settled {
         passes,
         silences,
-        views: views::different_views(now),
+        views: settle_views::different_views(now),
     }
 }

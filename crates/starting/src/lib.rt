@@ -7,7 +7,7 @@ use station::Switched;
 ghost use mathlib.Core.Path.{_≡_};
 ghost use mathlib.Core.Bool.{_&&_};
 ghost use lib.Dec.{ltb};
-ghost use Rattle.reading.specs.Reading.{isStation};
+ghost use Rattle.frame_reading.specs.Reading.{isStation};
 ghost use Rattle.station.specs.Rules.Starting.{startOf, stopOf};
 
 // A call of start or stop: the state after it, and the answer.
@@ -37,7 +37,7 @@ fn is_numbered(own: Settings) -> bool
     ensures { λ r. ⌜ r ≡ isStation (own .number) && ltb 0 (own .watch .0) ⌝ }
 {
     let watch = own.watch;
-    reading::is_station(own.number) & (0 < watch.0)
+    frame_reading::is_station(own.number) & (0 < watch.0)
 }
 
 pub fn start(station: Station, own: Settings) -> Switching
@@ -46,7 +46,7 @@ pub fn start(station: Station, own: Settings) -> Switching
 {
     let phase = station.phase;
     let areas = own.areas;
-    if !states::is_off(phase) {
+    if !phases::is_off(phase) {
         return refused(station, Refusal::NotDue);
     }
     if !is_numbered(own) {
@@ -55,7 +55,7 @@ pub fn start(station: Station, own: Settings) -> Switching
     if !area::in_range(areas) {
         return refused(station, Refusal::Area);
     }
-    done(states::fresh(Phase::Listening, own))
+    done(phases::fresh(Phase::Listening, own))
 }
 
 pub fn stop(station: Station) -> Switching
@@ -63,8 +63,8 @@ pub fn stop(station: Station) -> Switching
     ensures { λ r. ⌜ r .answer ≡ stopOf station .answer ⌝ }
 {
     let phase = station.phase;
-    if states::is_off(phase) {
+    if phases::is_off(phase) {
         return refused(station, Refusal::NotDue);
     }
-    done(states::stopped(station))
+    done(phases::stopped(station))
 }

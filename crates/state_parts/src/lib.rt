@@ -12,7 +12,7 @@ ghost use Rattle.panel.specs.Panel.{taken};
 ghost use Rattle.station.specs.Rules.Data.{without as withoutOf};
 ghost use Rattle.station.specs.Rules.State.{isOff, isParticipating, nothing, holds as holdsOf};
 ghost use Rattle.station.specs.Rules.Token.{takes as takesOf};
-ghost use Rattle.writing.specs.Writing.{noAreas};
+ghost use Rattle.frame_writing.specs.Writing.{noAreas};
 
 pub fn is_off(phase: Phase) -> bool
     ensures { λ r. ⌜ r ≡ isOff phase ⌝ }

@@ -13,8 +13,8 @@ use Rattle.frame.specs.declared.Refusal.the-variants as refusals
 use Rattle.members.specs.Listing.{listing}
 use Rattle.members.specs.Members.{noMembers, entryOf, isListed, missesSet, struck, withEntry}
 use Rattle.members.specs.declared.Members.{Members}
-use Rattle.reading.specs.Reading.{fieldsOf}
-use Rattle.round_trip.specs.Sent.{blockFields}
+use Rattle.frame_reading.specs.Reading.{fieldsOf}
+use Rattle.frame_round_trip.specs.Sent.{blockFields}
 use Rattle.settling.specs.Ring.{next, viewAfterPass}
 use Rattle.station.specs.Rules.Asking.{Asking, askOf}
 use Rattle.station.specs.Rules.Hearing.{Hearing, hearOf}
@@ -27,7 +27,7 @@ use Rattle.station.specs.declared.Phase.the-variants.{Startup, Listening
 use Rattle.station.specs.declared.Station.{Station}
 use Rattle.station.specs.declared.Token.the-variants as tokens
 use Rattle.units.specs.declared.Milliseconds.{Milliseconds}
-use Rattle.writing.specs.Writing.{noAreas, frameOf, headerOf, frontOf, backOf, fixedFor}
+use Rattle.frame_writing.specs.Writing.{noAreas, frameOf, headerOf, frontOf, backOf, fixedFor}
 
 -- A rival is dropped by its larger destination, whatever its source: "9, 2 to 5: 5", "5, 7 to 9: 5".
 smaller-destination : (viewAfter 9 2 5 ≡ 5) × (viewAfter 5 7 9 ≡ 5)

@@ -55,11 +55,11 @@ fn falls_due(station: Station, before: Ticks, after: Ticks) -> Settings
 fn start_up(own: Settings, members: Members) -> Station
     ensures { λ r. ⌜ r ≡ startedUp own members (numbersOf members) ⌝ }
 {
-    if searching::is_empty(members) {
-        return states::fresh(Phase::Listening, own);
+    if members_searching::is_empty(members) {
+        return phases::fresh(Phase::Listening, own);
     }
-    let smallest = searching::smallest(own.number, members);
-    states::begin(own, members, smallest)
+    let smallest = members_searching::smallest(own.number, members);
+    phases::begin(own, members, smallest)
 }
 
 fn startup_tick(station: Station, elapsed: Ticks) -> Station
@@ -67,7 +67,7 @@ fn startup_tick(station: Station, elapsed: Ticks) -> Station
 {
     let own = station.own;
     let members = station.members;
-    let limit = states::acceptance_time();
+    let limit = phases::acceptance_time();
     if limit.0 <= elapsed.0 {
         return start_up(own, members);
     }
@@ -82,9 +82,9 @@ fn joining_tick(station: Station, elapsed: Ticks) -> Station
     ensures { λ r. ⌜ r ≡ joiningTick station elapsed ⌝ }
 {
     let own = station.own;
-    let limit = states::detection_wait();
+    let limit = phases::detection_wait();
     if limit.0 <= elapsed.0 {
-        return states::fresh(Phase::Listening, own);
+        return phases::fresh(Phase::Listening, own);
     }
     let before = station.waited;
     let after = waited_then(own.number, station.rounds, before);
@@ -101,7 +101,7 @@ fn left(station: Station) -> Gathering
     let gathering = station.gathering;
     let view = station.view;
     if members::is_listed(members, view) & members::strikes(members, view) {
-        states::without(view, gathering)
+        phases::without(view, gathering)
     } else {
         gathering
     }
@@ -114,9 +114,9 @@ fn watch_ended(station: Station) -> Station
     let members = station.members;
     let view = station.view;
     let panel = station.panel;
-    let next = searching::next_after(own.number, members, view);
+    let next = members_searching::next_after(own.number, members, view);
     let gathering = left(station);
-    states::restart(
+    phases::restart(
         station,
         members::miss(members, view),
         next,
@@ -145,7 +145,7 @@ fn listening_tick(station: Station) -> Station
     let before = station.elapsed;
     let waited = station.waited;
     let panel = station.panel;
-    let elapsed = states::later(states::listening_time(own.number), before);
+    let elapsed = phases::later(phases::listening_time(own.number), before);
     count(station, own, elapsed, waited, panel)
 }
 
@@ -157,11 +157,11 @@ fn tick_on(station: Station) -> Station
     match phase {
         Phase::Off => station,
         Phase::Listening => listening_tick(station),
-        Phase::Startup => startup_tick(station, states::later(states::acceptance_time(), elapsed)),
-        Phase::Joining => joining_tick(station, states::later(states::detection_wait(), elapsed)),
+        Phase::Startup => startup_tick(station, phases::later(phases::acceptance_time(), elapsed)),
+        Phase::Joining => joining_tick(station, phases::later(phases::detection_wait(), elapsed)),
         Phase::Participating => participant_tick(
             station,
-            states::later(states::longest_watch(), elapsed),
+            phases::later(phases::longest_watch(), elapsed),
         ),
     }
 }

@@ -8,9 +8,9 @@ use borrow.Author.Needs.{needs}
 use borrow.Author.Tests.{le-leb}
 use Rattle.frame.specs.declared.Fields.{Fields}
 use Rattle.frame.specs.declared.Refusal.{Refusal}
-use Rattle.reading.specs.Reading.{dataSize}
-use Rattle.writing.specs.Writing.{wholeLength, writtenOf}
-use Rattle.writing.specs.declared.Written.the-variants.{Octets, Refused}
+use Rattle.frame_reading.specs.Reading.{dataSize}
+use Rattle.frame_writing.specs.Writing.{wholeLength, writtenOf}
+use Rattle.frame_writing.specs.declared.Written.the-variants.{Octets, Refused}
 use Rattle.asking.proofs.write.Statement.{statement}
 use Rattle.asking.proofs.write.Tie as tie
 

@@ -5,10 +5,10 @@ use Prim.Native.Nat.{ℕ}
 use native.Mathlib.Omega.{arith}
 use lib.ListN.{length, take}
 use borrow.Author.Tests.{ltb-true}
-use Rattle.decoding.specs.Gathering.{fresh}
-use Rattle.decoding.specs.declared.Gathered.{Gathered}
-use Rattle.feeding.specs.Feeding.{fedAll}
-use Rattle.feeding.specs.Fed.{fed-parts}
+use Rattle.decode_line.specs.Gathering.{fresh}
+use Rattle.decode_line.specs.declared.Gathered.{Gathered}
+use Rattle.text_feeding.specs.Feeding.{fedAll}
+use Rattle.text_feeding.specs.Fed.{fed-parts}
 use Rattle.decode.specs.Capture.{Carried, carried, decode}
 use Rattle.decode.proofs.decode_all.Statement.{statement}
 use Rattle.decode.proofs.decode_all.Tie as tie

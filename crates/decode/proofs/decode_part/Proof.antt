@@ -5,8 +5,8 @@ use Prim.Native.Nat.{ℕ, _-_, _≤_}
 use native.Mathlib.Omega.{arith}
 use lib.ListN.{length, take, drop}
 use borrow.Author.Tests.{ltb-true, ltb-false}
-use Rattle.feeding.specs.Feeding.{fedAll, Onward}
-use Rattle.feeding.specs.Scan.{taken-on, onward-all}
+use Rattle.text_feeding.specs.Feeding.{fedAll, Onward}
+use Rattle.text_feeding.specs.Scan.{taken-on, onward-all}
 use Rattle.decode.specs.Capture.{carried, decode}
 use Rattle.decode.proofs.decode_part.Statement.{statement}
 use Rattle.decode.proofs.decode_part.Tie as tie

@@ -1,6 +1,6 @@
 -- `decode::main` meets its contract.
 use lib.ListN.{replicate}
-use Rattle.feeding.specs.Front.{front-within, front-read}
+use Rattle.text_feeding.specs.Front.{front-within, front-read}
 use Rattle.decode.specs.Capture.{answerToRest}
 use borrow.Author.Needs.{needs}
 use Rattle.decode.proofs.main.Statement.{statement}

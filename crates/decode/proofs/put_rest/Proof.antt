@@ -2,7 +2,7 @@
 use mathlib.Core.Path.{_≡_, refl, sym, _∙_}
 use mathlib.Core.Bool.{true, false}
 use Rattle.copying.specs.Laws.{paste-nothing}
-use Rattle.decoding.specs.Gathering.{begun}
+use Rattle.decode_line.specs.Gathering.{begun}
 use borrow.Author.Needs.{needs}
 use Rattle.decode.proofs.put_rest.Statement.{statement}
 use Rattle.decode.proofs.put_rest.Tie as tie

@@ -3,13 +3,13 @@ use mathlib.Core.Path.{_≡_, ap, sym, _∙_}
 use mathlib.Core.List.{List}
 use Prim.Native.Nat.{ℕ}
 use lib.ListN.{length, drop}
-use Rattle.answering.specs.Answers.{textOf}
+use Rattle.decode_answers.specs.Answers.{textOf}
 use Rattle.copying.specs.Laws.{paste-nothing}
 use Rattle.copying.specs.Pasted.{pasted}
-use Rattle.decoding.specs.Gathering.{scanned, bufferScanned}
-use Rattle.decoding.specs.declared.Gathered.{Gathered}
-use Rattle.decoding.specs.declared.Scanned.{Scanned}
-use Rattle.feeding.specs.Scan.{Scan, ended-taken, ended-said, open-taken, open-said}
+use Rattle.decode_line.specs.Gathering.{scanned, bufferScanned}
+use Rattle.decode_line.specs.declared.Gathered.{Gathered}
+use Rattle.decode_line.specs.declared.Scanned.{Scanned}
+use Rattle.text_feeding.specs.Scan.{Scan, ended-taken, ended-said, open-taken, open-said}
 use Rattle.decode.specs.Capture.{carried, decode}
 use Rattle.decode.specs.Scanned.{scan-taken}
 use borrow.Author.Needs.{needs}

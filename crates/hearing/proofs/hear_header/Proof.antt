@@ -2,7 +2,7 @@
 use mathlib.Core.Path.{sym, _∙_}
 use lib.ListN.{length}
 use borrow.Author.Needs.{needs}
-use Rattle.heard_data.specs.Body.{body-read}
+use Rattle.hearing_data.specs.Body.{body-read}
 use Rattle.hearing.proofs.hear_header.Statement.{statement}
 use Rattle.hearing.proofs.hear_header.Tie as tie
 

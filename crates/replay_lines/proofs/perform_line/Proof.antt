@@ -3,10 +3,10 @@ use mathlib.Core.Path.{_≡_, ap, _∙_}
 use mathlib.Core.List.{List}
 use Prim.Native.Nat.{ℕ}
 use lib.ListN.{length}
-use Rattle.commands.specs.Commands.{commandIn}
-use Rattle.commands.specs.declared.Command.{Command}
+use Rattle.replay_commands.specs.Commands.{commandIn}
+use Rattle.replay_commands.specs.declared.Command.{Command}
 use Rattle.copying.specs.Pasted.{pasted}
-use Rattle.replaying.specs.Replaying.{Kept, keeping, Performed, performed}
+use Rattle.replay_performing.specs.Replaying.{Kept, keeping, Performed, performed}
 use Rattle.station.specs.declared.Station.{Station}
 use Rattle.replay_lines.specs.Replay.{Carried, held, lineDone}
 use borrow.Author.Needs.{needs}

@@ -5,11 +5,11 @@ use Prim.Native.Nat.{ℕ}
 use lib.ListN.{length, drop}
 use Rattle.copying.specs.Laws.{paste-nothing}
 use Rattle.copying.specs.Pasted.{pasted}
-use Rattle.feeding.specs.Scan.{Scan, ended-taken, ended-said, open-taken, open-said}
-use Rattle.input_line.specs.Gathering.{scanned, bufferScanned}
-use Rattle.input_line.specs.declared.Line.{Line}
-use Rattle.input_line.specs.declared.Scanned.{Scanned}
-use Rattle.replaying.specs.Replaying.{Kept, keeping}
+use Rattle.text_feeding.specs.Scan.{Scan, ended-taken, ended-said, open-taken, open-said}
+use Rattle.replay_input.specs.Gathering.{scanned, bufferScanned}
+use Rattle.replay_input.specs.declared.Line.{Line}
+use Rattle.replay_input.specs.declared.Scanned.{Scanned}
+use Rattle.replay_performing.specs.Replaying.{Kept, keeping}
 use Rattle.replay_lines.specs.Replay.{carried, replay}
 use Rattle.replay_lines.specs.Scanned.{scan-taken}
 use borrow.Author.Needs.{needs}

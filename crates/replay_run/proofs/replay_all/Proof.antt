@@ -5,9 +5,9 @@ use Prim.Native.Nat.{ℕ}
 use native.Mathlib.Omega.{arith}
 use lib.ListN.{length, take}
 use borrow.Author.Tests.{ltb-true}
-use Rattle.feeding.specs.Fed.{fed-parts}
-use Rattle.input_line.specs.Gathering.{fresh}
-use Rattle.input_line.specs.declared.Line.{Line}
+use Rattle.text_feeding.specs.Fed.{fed-parts}
+use Rattle.replay_input.specs.Gathering.{fresh}
+use Rattle.replay_input.specs.declared.Line.{Line}
 use Rattle.replay_lines.specs.Replay.{Carried, held, replay, after}
 use Rattle.station.specs.Rules.State.{never}
 use Rattle.station.specs.declared.Station.{Station}

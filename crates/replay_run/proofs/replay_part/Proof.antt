@@ -5,8 +5,8 @@ use Prim.Native.Nat.{_-_, _≤_}
 use native.Mathlib.Omega.{arith}
 use lib.ListN.{length, take}
 use borrow.Author.Tests.{ltb-true, ltb-false}
-use Rattle.feeding.specs.Feeding.{Onward}
-use Rattle.feeding.specs.Scan.{taken-on, onward-all}
+use Rattle.text_feeding.specs.Feeding.{Onward}
+use Rattle.text_feeding.specs.Scan.{taken-on, onward-all}
 use Rattle.replay_lines.specs.Replay.{held, replay, after}
 use Rattle.replay_run.proofs.replay_part.Statement.{statement}
 use Rattle.replay_run.proofs.replay_part.Tie as tie

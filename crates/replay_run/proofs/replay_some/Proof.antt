@@ -1,6 +1,6 @@
 -- `replay_run::replay_some` meets its contract.
 use mathlib.Core.Path.{ap, _∙_}
-use Rattle.feeding.specs.Scan.{read-arrived, read-taken}
+use Rattle.text_feeding.specs.Scan.{read-arrived, read-taken}
 use Rattle.replay_lines.specs.Replay.{held, after}
 use borrow.Author.Needs.{needs}
 use Rattle.replay_run.proofs.replay_some.Statement.{statement}

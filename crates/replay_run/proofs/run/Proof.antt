@@ -1,6 +1,6 @@
 -- `replay_run::run` meets its contract.
 use lib.ListN.{replicate}
-use Rattle.feeding.specs.Front.{front-within, front-read}
+use Rattle.text_feeding.specs.Front.{front-within, front-read}
 use Rattle.replay_end.specs.End.{answerToRest}
 use borrow.Author.Needs.{needs}
 use Rattle.replay_run.proofs.run.Statement.{statement}

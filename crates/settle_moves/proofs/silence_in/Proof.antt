@@ -5,7 +5,7 @@ use Prim.Native.Nat.{ℕ, _-_}
 use native.Mathlib.Omega.{arith}
 use lib.ListN.{length, take, drop, set}
 use Rattle.settling.specs.Ring.{silence}
-use Rattle.views.specs.Views.{stationsOf}
+use Rattle.settle_views.specs.Views.{stationsOf}
 use Rattle.settle_moves.specs.Moves.{viewAfter}
 use Rattle.settle_moves.specs.Loops.{mapped-more, mapped-all}
 use borrow.Author.Needs.{needs}

@@ -5,7 +5,7 @@ use Prim.Native.Nat.{_+_, _-_, _≤_}
 use native.Mathlib.Omega.{arith}
 use borrow.Author.Tests.{not-true, not-false}
 use lib.ListN.{length}
-use Rattle.views.specs.Views.{stationsOf}
+use Rattle.settle_views.specs.Views.{stationsOf}
 use Rattle.settle_run.specs.declared.Stepped.{Stepped}
 use Rattle.settle_run.specs.Run.{over, settledOf, Bounded}
 use Rattle.settle_run.specs.Whole.{settled-bounded}

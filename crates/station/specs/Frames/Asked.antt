@@ -17,11 +17,11 @@ use Rattle.copying.specs.Laws.{length-pasted}
 use Rattle.copying.specs.Pasted.{pasted}
 use Rattle.frame.specs.declared.Fields.{Fields}
 use Rattle.laws.specs.Tests.{first, second}
-use Rattle.reading.specs.Reading.{isStation, readOf, dataSize}
-use Rattle.reading.specs.declared.Read.the-variants.{Frame}
-use Rattle.round_trip.specs.SentBack.{trigger-back, request-back, block-back, block-size}
-use Rattle.writing.specs.Lengths.{length-frame}
-use Rattle.writing.specs.Writing.{frameOf, outputOf, wholeLength}
+use Rattle.frame_reading.specs.Reading.{isStation, readOf, dataSize}
+use Rattle.frame_reading.specs.declared.Read.the-variants.{Frame}
+use Rattle.frame_round_trip.specs.SentBack.{trigger-back, request-back, block-back, block-size}
+use Rattle.frame_writing.specs.Lengths.{length-frame}
+use Rattle.frame_writing.specs.Writing.{frameOf, outputOf, wholeLength}
 use Rattle.station.specs.Outcomes.AskCases.{SendCases, triggers, requests, begins, passes, AskCases, refuses, sends, ask-cases}
 use Rattle.station.specs.Rules.Asking.{Asking, dueFields, nextBlock, nextStation, askOf}
 use Rattle.station.specs.declared.Asked.the-variants.{Octets}

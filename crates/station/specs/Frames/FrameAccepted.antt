@@ -13,9 +13,9 @@ use Rattle.frame.specs.declared.Code.{Code}
 use Rattle.frame.specs.declared.Code.the-variants.{Token, Cyclic, Request, Trigger}
 use Rattle.frame.specs.declared.Fields.{Fields}
 use Rattle.laws.specs.Tests.{both}
-use Rattle.reading.specs.Reading.{readOf, readHeaderOf, readBodyOf, dataOf}
-use Rattle.reading.specs.declared.Read.the-variants.{Frame}
-use Rattle.round_trip.specs.Accepted.{Accepted, accepted as passed}
+use Rattle.frame_reading.specs.Reading.{readOf, readHeaderOf, readBodyOf, dataOf}
+use Rattle.frame_reading.specs.declared.Read.the-variants.{Frame}
+use Rattle.frame_round_trip.specs.Accepted.{Accepted, accepted as passed}
 use Rattle.station.specs.Outcomes.AskCases.{triggers, requests, begins, passes, AskCases, refuses, sends, ask-cases}
 use Rattle.station.specs.Frames.Asked.{CanSend, asked-back}
 use Rattle.station.specs.Rules.Asking.{isPlaced, dueIn, askOf, dueFields, Asking}

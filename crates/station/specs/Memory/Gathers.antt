@@ -10,9 +10,9 @@ use borrow.Author.Tests.{eqb-true}
 use Rattle.block.specs.Blocks.{startOf}
 use Rattle.frame.specs.Codes.{isCyclic}
 use Rattle.frame.specs.declared.Fields.{Fields}
-use Rattle.reading.specs.Reading as reading
-use Rattle.reading.specs.Reading.{readHeaderOf, readBodyOf}
-use Rattle.reading.specs.declared.Read.the-variants.{Frame}
+use Rattle.frame_reading.specs.Reading as reading
+use Rattle.frame_reading.specs.Reading.{readHeaderOf, readBodyOf}
+use Rattle.frame_reading.specs.declared.Read.the-variants.{Frame}
 use Rattle.station.specs.Rules.Data.{without}
 use Rattle.station.specs.Rules.State.{nothing}
 use Rattle.station.specs.declared.Gathering.{Gathering}

@@ -12,8 +12,8 @@ use Rattle.block.specs.Cut as cut
 use Rattle.copying.specs.Pasted.{pasted}
 use Rattle.frame.specs.declared.Fields.{Fields}
 use Rattle.members.specs.Members.{entryOf}
-use Rattle.reading.specs.Reading as reading
-use Rattle.round_trip.specs.Shown.{block-is}
+use Rattle.frame_reading.specs.Reading as reading
+use Rattle.frame_round_trip.specs.Shown.{block-is}
 use Rattle.station.specs.Rules.Data.{sameAreas, isNext}
 use Rattle.station.specs.Memory.Gathers.{acceptedAfter, Parts, more, Gathers, gathers-nothing, before-next, gathers-without}
 use Rattle.station.specs.Outcomes.HearCases.{FromMember, writes, keeps, drops, off, begins, joins, passes, reads, lists, ignores, awaits-outside, HearCases, refuses, turnsOff, gathers, heeds, whole-of, hear-cases}

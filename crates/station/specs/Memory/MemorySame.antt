@@ -10,9 +10,9 @@ use Rattle.copying.specs.Pasted.{pasted}
 use Rattle.frame.specs.Codes.{isToken, isCyclic}
 use Rattle.frame.specs.declared.Fields.{Fields}
 use Rattle.members.specs.Members.{entryOf, isListed}
-use Rattle.reading.specs.Reading as reading
-use Rattle.reading.specs.Reading.{readHeaderOf, readBodyOf}
-use Rattle.reading.specs.declared.Read.the-variants.{Frame}
+use Rattle.frame_reading.specs.Reading as reading
+use Rattle.frame_reading.specs.Reading.{readHeaderOf, readBodyOf}
+use Rattle.frame_reading.specs.declared.Read.the-variants.{Frame}
 use Rattle.station.specs.Rules.Answers.{dataOf}
 use Rattle.station.specs.Rules.Data.{turnWritten, sameAreas, isNext}
 use Rattle.station.specs.Outcomes.HearCases.{writes, keeps, drops, EnterCases, off, begins, joins, passes, reads, lists, ignores, HearCases, refuses, turnsOff, gathers, heeds, hear-cases}

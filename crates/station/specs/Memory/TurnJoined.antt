@@ -16,8 +16,8 @@ use Rattle.copying.specs.Pasted.{pasted}
 use Rattle.frame.specs.Codes.{isCyclic}
 use Rattle.frame.specs.declared.Fields.{Fields}
 use Rattle.members.specs.Members.{entryOf}
-use Rattle.reading.specs.Reading as reading
-use Rattle.round_trip.specs.Shown.{Blocked, block-is}
+use Rattle.frame_reading.specs.Reading as reading
+use Rattle.frame_round_trip.specs.Shown.{Blocked, block-is}
 use Rattle.station.specs.Rules.Answers.{dataOf}
 use Rattle.station.specs.Rules.Data.{sameAreas}
 use Rattle.station.specs.Outcomes.HearCases.{read-both}

@@ -16,7 +16,7 @@ use Rattle.block.specs.Blocks.{startOf}
 use Rattle.copying.specs.Pasted.{pasted}
 use Rattle.frame.specs.declared.Fields.{Fields}
 use Rattle.members.specs.Members.{entryOf}
-use Rattle.reading.specs.Reading as reading
+use Rattle.frame_reading.specs.Reading as reading
 use Rattle.station.specs.Rules.Answers.{dataOf}
 use Rattle.station.specs.Rules.Hearing.{lentRight, hearOf}
 use Rattle.station.specs.States.Sound.{sound}

@@ -9,8 +9,8 @@ use Rattle.frame.specs.declared.Fields.{Fields}
 use Rattle.frame.specs.declared.Refusal.{Refusal}
 use Rattle.frame.specs.declared.Refusal.the-variants as refusals
 use Rattle.laws.specs.Tests.{first, second}
-use Rattle.round_trip.specs.Sent.{requestFields, triggerFields}
-use Rattle.writing.specs.Writing.{wholeLength, outputOf}
+use Rattle.frame_round_trip.specs.Sent.{requestFields, triggerFields}
+use Rattle.frame_writing.specs.Writing.{wholeLength, outputOf}
 use Rattle.station.specs.Rules.Asking.{Asking, nextFields, turnFor, isPlaced, dueIn, nextBlock, nextStation, dueFields, turnAfter, blockSent, sentIn, lentRight, refused, written, askOf}
 use Rattle.station.specs.Rules.Starting.{triggerDue, requestFallen}
 use Rattle.station.specs.Rules.State.{fresh, holds, begun, requestSent}

@@ -17,10 +17,10 @@ use Rattle.frame.specs.declared.Refusal.{Refusal}
 use Rattle.frame.specs.declared.Refusal.the-variants as refusals
 use Rattle.laws.specs.Tests.{first, second, implied}
 use Rattle.members.specs.Members.{entryOf, isListed}
-use Rattle.reading.specs.Reading.{andThen, readHeaderOf, readBodyOf, readOf, dataOf}
-use Rattle.reading.specs.declared.Read.{Read}
-use Rattle.reading.specs.declared.Read.the-variants.{Frame, Refused}
-use Rattle.round_trip.specs.Accepted.{Accepted, accepted as passed, bodied}
+use Rattle.frame_reading.specs.Reading.{andThen, readHeaderOf, readBodyOf, readOf, dataOf}
+use Rattle.frame_reading.specs.declared.Read.{Read}
+use Rattle.frame_reading.specs.declared.Read.the-variants.{Frame, Refused}
+use Rattle.frame_round_trip.specs.Accepted.{Accepted, accepted as passed, bodied}
 use Rattle.station.specs.Rules.Data.{Gathered, turnWritten, sameAreas, isNext, dropped, gathered}
 use Rattle.station.specs.Rules.Hearing.{Hearing, requested, enters, entersAnswer, participantHeard, accepted, isTaken, knows, isStranger, lentRight, refused, bodyHeard, headerHeard, hearOf}
 use Rattle.station.specs.Rules.Starting.{joinedBy}

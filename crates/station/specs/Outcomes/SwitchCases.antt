@@ -6,7 +6,7 @@ use Rattle.area.specs.Areas.{inRange}
 use Rattle.frame.specs.declared.Refusal.{Refusal}
 use Rattle.frame.specs.declared.Refusal.the-variants as refusals
 use Rattle.laws.specs.Tests.{first, second}
-use Rattle.reading.specs.Reading.{isStation}
+use Rattle.frame_reading.specs.Reading.{isStation}
 use Rattle.station.specs.Rules.Starting.{Switching, need, startOf, stopOf}
 use Rattle.station.specs.Rules.State.{isOff, fresh, stopped}
 use Rattle.station.specs.declared.Phase.{Phase}

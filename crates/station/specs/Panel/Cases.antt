@@ -5,15 +5,15 @@ use Prim.Native.Nat.{ℕ}
 use lib.ListN.{replicate}
 use Rattle.members.specs.Members.{noMembers}
 use Rattle.panel.specs.declared.Figure.the-variants.{Nothing, Gap}
-use Rattle.reading.specs.Reading.{fieldsOf}
-use Rattle.round_trip.specs.Sent.{blockFields}
+use Rattle.frame_reading.specs.Reading.{fieldsOf}
+use Rattle.frame_round_trip.specs.Sent.{blockFields}
 use Rattle.station.specs.Rules.Calls.{Call, start, stop, tick, hear, ask}
 use Rattle.station.specs.Panel.History.{stepsOn, takings, lastGap, stateAfter, figureSaid}
 use Rattle.station.specs.Panel.PanelIsGap.{panel-is-gap}
 use Rattle.station.specs.Rules.Showing.{figureShown}
 use Rattle.station.specs.Rules.State.{begun, never}
 use Rattle.station.specs.declared.Settings.{Settings}
-use Rattle.writing.specs.Writing.{noAreas, frameOf, headerOf, frontOf, backOf, fixedFor}
+use Rattle.frame_writing.specs.Writing.{noAreas, frameOf, headerOf, frontOf, backOf, fixedFor}
 
 -- station 1 has no areas, so that its turn is one block
 abbrev one : Settings

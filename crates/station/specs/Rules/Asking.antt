@@ -13,8 +13,8 @@ use Rattle.frame.specs.declared.Refusal.{Refusal}
 use Rattle.frame.specs.declared.Refusal.the-variants as refusals
 use Rattle.members.specs.Members.{nextAfter}
 use Rattle.panel.specs.Panel.{taken}
-use Rattle.round_trip.specs.Sent.{blockFields, requestFields, triggerFields}
-use Rattle.writing.specs.Writing.{wholeLength, outputOf}
+use Rattle.frame_round_trip.specs.Sent.{blockFields, requestFields, triggerFields}
+use Rattle.frame_writing.specs.Writing.{wholeLength, outputOf}
 use Rattle.station.specs.Rules.Data.{turnOf}
 use Rattle.station.specs.Rules.Starting.{triggerDue, requestFallen}
 use Rattle.station.specs.Rules.State.{fresh, holds, begun, requestSent, moved}

@@ -13,9 +13,9 @@ use Rattle.frame.specs.declared.Refusal.{Refusal}
 use Rattle.frame.specs.declared.Refusal.the-variants as refusals
 use Rattle.members.specs.Listing.{listing}
 use Rattle.members.specs.Members.{isListed, cleared}
-use Rattle.reading.specs.Reading.{readHeaderOf, readBodyOf, dataOf}
-use Rattle.reading.specs.declared.Read.{Read}
-use Rattle.reading.specs.declared.Read.the-variants.{Frame, Refused}
+use Rattle.frame_reading.specs.Reading.{readHeaderOf, readBodyOf, dataOf}
+use Rattle.frame_reading.specs.declared.Read.{Read}
+use Rattle.frame_reading.specs.declared.Read.the-variants.{Frame, Refused}
 use Rattle.station.specs.Rules.Data.{Gathered, gathered, without}
 use Rattle.station.specs.Rules.Starting.{oursDue, joinedBy}
 use Rattle.station.specs.Rules.State.{isOff, isParticipating, fresh, stopped, relisted}

@@ -12,8 +12,8 @@ use Rattle.frame.specs.declared.Refusal.the-variants as refusals
 use Rattle.members.specs.Listing.{bare, overlapsListed, listing}
 use Rattle.members.specs.Members.{smallest}
 use Rattle.members.specs.declared.Members.{Members}
-use Rattle.reading.specs.Reading.{isStation}
-use Rattle.writing.specs.Writing.{noAreas}
+use Rattle.frame_reading.specs.Reading.{isStation}
+use Rattle.frame_writing.specs.Writing.{noAreas}
 use Rattle.station.specs.Rules.State.{isOff, noTicks, fresh, stopped, begun, learned}
 use Rattle.station.specs.Rules.Waits.{numberWait, listeningTime}
 use Rattle.station.specs.declared.Phase.{Phase}

@@ -7,7 +7,7 @@ use Rattle.members.specs.declared.Members.{Members}
 use Rattle.panel.specs.Panel.{blank, taken}
 use Rattle.panel.specs.declared.Panel.{Panel}
 use Rattle.units.specs.declared.Ticks.{Ticks}
-use Rattle.writing.specs.Writing.{noAreas, noWatch}
+use Rattle.frame_writing.specs.Writing.{noAreas, noWatch}
 use Rattle.station.specs.declared.Gathering.{Gathering}
 use Rattle.station.specs.declared.Phase.{Phase}
 use Rattle.station.specs.declared.Phase.the-variants.{Off, Listening, Startup, Joining, Participating}

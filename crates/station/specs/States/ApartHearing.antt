@@ -10,8 +10,8 @@ use Rattle.frame.specs.declared.Fields.{Fields}
 use Rattle.laws.specs.Tests.{both, second}
 use Rattle.members.specs.Listing.{listing}
 use Rattle.members.specs.declared.Members.{Members}
-use Rattle.reading.specs.Reading.{isStation}
-use Rattle.writing.specs.Writing.{noAreas}
+use Rattle.frame_reading.specs.Reading.{isStation}
+use Rattle.frame_writing.specs.Writing.{noAreas}
 use Rattle.station.specs.States.Disjoint.{Disjoint, Clear, Apart, disjoint-misses, clear-misses, disjoint-listing, clear-listing}
 use Rattle.station.specs.States.ApartTicking.{fresh-apart}
 use Rattle.station.specs.Outcomes.AskCases as on-asking

@@ -7,7 +7,7 @@ use native.Mathlib.Omega.{arith}
 use lib.Dec.{eqb}
 use borrow.Author.Tests.{leb-false}
 use Rattle.block.specs.Blocks.{blocksOf}
-use Rattle.reading.specs.Reading.{isStation}
+use Rattle.frame_reading.specs.Reading.{isStation}
 use Rattle.station.specs.Outcomes.AskCases.{triggers, requests, begins, passes, AskCases, refuses, sends}
 use Rattle.station.specs.Rules.Asking.{nextBlock, isLast, nextStation, blockSent, Asking}
 use Rattle.station.specs.States.KeepsStarting.{taken-shown, startup-sound, begun-sound}

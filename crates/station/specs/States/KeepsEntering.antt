@@ -17,10 +17,10 @@ use Rattle.frame.specs.declared.Fields.{Fields}
 use Rattle.laws.specs.Tests.{first, second}
 use Rattle.members.specs.Listing.{listing}
 use Rattle.members.specs.declared.Members.{Members}
-use Rattle.reading.specs.Reading.{isStation, fieldsOf}
-use Rattle.round_trip.specs.Accepted.{Accepted}
-use Rattle.round_trip.specs.Shown.{source-is, destination-is, areas-are, block-is, cyclic-carries}
-use Rattle.writing.specs.Writing.{noAreas}
+use Rattle.frame_reading.specs.Reading.{isStation, fieldsOf}
+use Rattle.frame_round_trip.specs.Accepted.{Accepted}
+use Rattle.frame_round_trip.specs.Shown.{source-is, destination-is, areas-are, block-is, cyclic-carries}
+use Rattle.frame_writing.specs.Writing.{noAreas}
 use Rattle.station.specs.Rules.Data.{sameAreas}
 use Rattle.station.specs.Outcomes.HearCases.{EnterCases, off, begins, joins, passes, reads, lists, ignores, awaits-on, lists-on}
 use Rattle.station.specs.Rules.Hearing.{requested}

@@ -10,7 +10,7 @@ use borrow.Author.Tests.{eqb-false}
 use Rattle.block.specs.Blocks.{blocksOf}
 use Rattle.frame.specs.declared.Fields.{Fields}
 use Rattle.members.specs.Members.{entryOf, cleared}
-use Rattle.reading.specs.Reading.{isStation}
+use Rattle.frame_reading.specs.Reading.{isStation}
 use Rattle.station.specs.Rules.Data.{Gathered}
 use Rattle.station.specs.Outcomes.HearCases.{FromMember, GatherCases, writes, keeps, drops, HearCases, refuses, turnsOff, gathers, heeds, whole-of, other-of, hear-cases}
 use Rattle.station.specs.Rules.Hearing.{Hearing, hearOf}

@@ -10,7 +10,7 @@ use Rattle.laws.specs.Tests.{second, first}
 use Rattle.members.specs.declared.Members.{Members}
 use Rattle.panel.specs.Panel.{blank, taken, ticked}
 use Rattle.panel.specs.declared.Panel.{Panel}
-use Rattle.reading.specs.Reading.{isStation}
+use Rattle.frame_reading.specs.Reading.{isStation}
 use Rattle.station.specs.States.ListKept.{none-listed, empty-kept}
 use Rattle.station.specs.States.Reachable.{TypedSettings, Ours, Listed, Placed, Shown, hasView, limitOf, Sound}
 use Rattle.station.specs.Rules.Starting.{startOf, stopOf}

@@ -17,7 +17,7 @@ use Rattle.members.specs.Listing.{bare, overlapsOther, listing}
 use Rattle.members.specs.Members.{nobody, noMembers, entryOf, isListed, withEntry, numbersFrom, numbersOf, withOurs, ringOf, nextAfter, firstOf, smallest, missesSet, cleared, struck, strikes, missed}
 use Rattle.members.specs.declared.Entry.{Entry}
 use Rattle.members.specs.declared.Members.{Members}
-use Rattle.reading.specs.Reading.{isStation}
+use Rattle.frame_reading.specs.Reading.{isStation}
 use Rattle.settling.specs.Ring.{firstAbove, next}
 use Rattle.units.specs.declared.Milliseconds.{Milliseconds}
 use Rattle.station.specs.States.Reachable.{Entered, Listed, Placed}

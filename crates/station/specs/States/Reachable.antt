@@ -11,7 +11,7 @@ use Rattle.members.specs.Members.{entryOf, isListed}
 use Rattle.members.specs.declared.Entry.{Entry}
 use Rattle.members.specs.declared.Members.{Members}
 use Rattle.panel.specs.declared.Panel.{Panel}
-use Rattle.reading.specs.Reading.{isStation}
+use Rattle.frame_reading.specs.Reading.{isStation}
 use Rattle.units.specs.declared.Milliseconds.{Milliseconds}
 use Rattle.station.specs.Rules.Calls.{Call, start, stop, tick, hear, ask, after}
 use Rattle.station.specs.Rules.Starting.{requestFallen}

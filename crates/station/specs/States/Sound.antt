@@ -1,6 +1,6 @@
 -- What holds in every state that calls can leave: the record `Sound` of Reachable. Assumes nothing.
 use native.Mathlib.Omega.{arith}
-use Rattle.writing.specs.Writing.{noAreas, noWatch}
+use Rattle.frame_writing.specs.Writing.{noAreas, noWatch}
 use Rattle.station.specs.Outcomes.AskCases.{ask-cases}
 use Rattle.station.specs.Rules.Calls.{Call, start, stop, tick, hear, ask, after}
 use Rattle.station.specs.States.KeepsAsking.{ask-sound}

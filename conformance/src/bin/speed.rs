@@ -1,0 +1,284 @@
+//! How long the calls take: the proved station and the model side by side, with the same inputs.
+
+use flnet_conformance::boundary::Station;
+use flnet_conformance::engine::Engine;
+use flnet_conformance::frames::Frame;
+use flnet_conformance::model::frame::Code;
+use flnet_conformance::model::{waits, Areas, Model, Part, Settings, MEMORY, OUTPUT};
+use flnet_conformance::names::{KEPT, WRITTEN};
+use flnet_conformance::random::Random;
+use std::hint::black_box;
+use std::time::{Duration, Instant};
+
+/// Measurements of each figure, of which the median counts.
+const REPETITIONS: usize = 41;
+/// A unit and its nanoseconds.
+type Unit = (&'static str, f64);
+const NANOSECOND: Unit = ("ns", 1.0);
+const MICROSECOND: Unit = ("us", 1000.0);
+/// Words of each station of a ring: 64 octets.
+const RING_WORDS: u16 = 32;
+
+/// A station with the buffers that its host lends.
+struct Host<E> {
+    station: E,
+    memory: Vec<u8>,
+    assembly: Vec<u8>,
+    turn: Vec<u8>,
+    output: Vec<u8>,
+}
+
+impl<E: Engine + Default> Host<E> {
+    fn started(own: Settings) -> Host<E> {
+        let mut made = Host {
+            station: E::default(),
+            memory: vec![1; MEMORY],
+            assembly: vec![2; MEMORY],
+            turn: vec![3; MEMORY],
+            output: vec![4; OUTPUT],
+        };
+        made.station.start(own.into());
+        made
+    }
+
+    /// A participant by ring startup with these others; the first in view is the one with the
+    /// smallest number.
+    fn participant(own: Settings, others: &[Settings]) -> Host<E> {
+        let mut made = Host::started(own);
+        let mut random = Random::new(u64::from(own.number));
+        let heard = others
+            .iter()
+            .map(|other| Frame::request(other.number, other.areas));
+        let trigger = Frame::trigger(own.number % 254 + 1);
+        for frame in std::iter::once(trigger).chain(heard) {
+            made.hear(&frame.octets(&mut random));
+        }
+        (0..waits::ACCEPTANCE).for_each(|_| made.tick());
+        made
+    }
+
+    // The state is hidden from the optimizer at each call, as it is where calls come one by one.
+    fn tick(&mut self) {
+        black_box(&mut self.station).tick();
+    }
+
+    /// What became of the data.
+    fn hear(&mut self, octets: &[u8]) -> u8 {
+        let station = black_box(&mut self.station);
+        station
+            .hear(octets, &mut self.memory, &mut self.assembly)
+            .data
+    }
+
+    /// The octets of the frame that stands at the front of the output.
+    fn ask(&mut self) -> usize {
+        let station = black_box(&mut self.station);
+        station
+            .ask(&self.memory, &mut self.turn, &mut self.output)
+            .octets
+    }
+}
+
+fn settings(number: u8, areas: Areas) -> Settings {
+    Settings {
+        number,
+        areas,
+        watch: 255,
+    }
+}
+
+/// A station that has so many words of area 2, apart from those of other numbers.
+fn share(number: u8, words: u16) -> Settings {
+    let two = Part::new(words * u16::from(number - 1), words);
+    settings(number, Areas::new(Part::default(), two))
+}
+
+fn octets(code: Code, from: &Settings, to: u8, block: u8) -> Vec<u8> {
+    Frame::cyclic(code, from.number, to, from.areas, block).octets(&mut Random::new(1))
+}
+
+/// A measurement: the mean time of a call, in nanoseconds, over so many rounds of so many calls.
+fn measurement(rounds: u32, calls: u32, mut round: impl FnMut()) -> impl FnMut() -> f64 {
+    move || {
+        let begin = Instant::now();
+        (0..rounds).for_each(|_| round());
+        begin.elapsed().as_nanos() as f64 / f64::from(rounds * calls)
+    }
+}
+
+/// A participant that hears a block now and then, so that no watch ends.
+fn tick<E: Engine + Default>() -> impl FnMut() -> f64 {
+    let other = share(2, 512);
+    let mut station = Host::<E>::participant(share(1, 512), &[other]);
+    let block = octets(Code::Cyclic, &other, 1, 1);
+    measurement(20, 2000, move || {
+        (0..2000).for_each(|_| station.tick());
+        station.hear(&block);
+    })
+}
+
+/// A station that listens, and hears nothing.
+fn tick_listening<E: Engine + Default>() -> impl FnMut() -> f64 {
+    let mut station = Host::<E>::started(share(1, 512));
+    measurement(20, 2000, move || (0..2000).for_each(|_| station.tick()))
+}
+
+/// Hears these frames in turn, with the same outcome each time.
+fn hear<E: Engine + Default>(
+    mut station: Host<E>,
+    frames: Vec<Vec<u8>>,
+    data: u8,
+) -> impl FnMut() -> f64 {
+    let calls = frames.len() as u32;
+    measurement(16_000 / calls, calls, move || {
+        for frame in &frames {
+            assert_eq!(station.hear(black_box(frame)), data);
+        }
+    })
+}
+
+/// The token of a turn of one block, there and back between two others.
+fn hear_token<E: Engine + Default>() -> impl FnMut() -> f64 {
+    let (one, other) = (share(2, 512), share(3, 512));
+    let frames = vec![
+        octets(Code::Token, &one, 3, 1),
+        octets(Code::Token, &other, 2, 1),
+    ];
+    let station = Host::<E>::participant(share(9, 512), &[one, other]);
+    hear(station, frames, WRITTEN)
+}
+
+/// Blocks 1 to 16 of a turn of 17.
+fn hear_block<E: Engine + Default>() -> impl FnMut() -> f64 {
+    let other = settings(2, Areas::new(Part::new(0, 512), Part::new(0, 8192)));
+    let own = settings(1, Areas::default());
+    let frames = (1..=16)
+        .map(|block| octets(Code::Cyclic, &other, 1, block))
+        .collect();
+    hear(Host::<E>::participant(own, &[other]), frames, KEPT)
+}
+
+/// A turn of 8 blocks, sent over and over: copying the areas at the first block is in it, hearing
+/// the token come back is not.
+fn ask_block<E: Engine + Default>() -> impl FnMut() -> f64 {
+    const BLOCKS: u32 = 8;
+    const TURNS: u32 = 2000;
+    let other = settings(2, Areas::default());
+    let mut station = Host::<E>::participant(share(1, 4096), &[other]);
+    let back = octets(Code::Token, &other, 1, 1);
+    move || {
+        let mut spent = Duration::ZERO;
+        for _ in 0..TURNS {
+            let begin = Instant::now();
+            (0..BLOCKS).for_each(|_| assert_eq!(station.ask(), OUTPUT));
+            spent += begin.elapsed();
+            station.hear(&back);
+        }
+        spent.as_nanos() as f64 / f64::from(TURNS * BLOCKS)
+    }
+}
+
+/// The same for a station alone in its list, which looks for the next one at every number.
+fn ask_alone<E: Engine + Default>() -> impl FnMut() -> f64 {
+    let mut station = Host::<E>::participant(share(1, 4096), &[share(2, 4096)]);
+    // Three misses of the other, and as many watches of ours between them.
+    (0..6 * waits::watch(255)).for_each(|_| station.tick());
+    measurement(16_000, 1, move || assert_eq!(station.ask(), OUTPUT))
+}
+
+fn ring_of<E: Engine + Default>(stations: u8) -> Vec<Host<E>> {
+    let all: Vec<Settings> = (1..=stations)
+        .map(|number| share(number, RING_WORDS))
+        .collect();
+    let others_of = |own: &Settings| -> Vec<Settings> {
+        all.iter().copied().filter(|other| other != own).collect()
+    };
+    all.iter()
+        .map(|own| Host::participant(*own, &others_of(own)))
+        .collect()
+}
+
+/// One turn of the ring: each station in its turn is asked for its token frame, which all others
+/// hear.
+fn ring<E: Engine + Default>(stations: u8) -> impl FnMut() -> f64 {
+    let mut ring = ring_of::<E>(stations);
+    let mut frame = [0; OUTPUT];
+    let turns = 10 + 20_000 / u32::from(stations).pow(2);
+    measurement(turns, 1, move || {
+        for holder in 0..ring.len() {
+            let octets = ring[holder].ask();
+            frame[..octets].copy_from_slice(&ring[holder].output[..octets]);
+            let others = ring.iter_mut().enumerate().filter(|(at, _)| *at != holder);
+            for (_, other) in others {
+                assert_eq!(other.hear(black_box(&frame[..octets])), WRITTEN);
+            }
+        }
+    })
+}
+
+fn median(mut times: Vec<f64>) -> f64 {
+    times.sort_by(f64::total_cmp);
+    times[times.len() / 2]
+}
+
+/// Measures both by turns, so that whatever else the machine does falls on both; the ratio is the
+/// median of those of two neighbouring measurements. The first ones only warm up.
+fn line(
+    what: &str,
+    (unit, nanoseconds): Unit,
+    mut proved: impl FnMut() -> f64,
+    mut model: impl FnMut() -> f64,
+) {
+    (proved(), model());
+    let times: Vec<(f64, f64)> = (0..REPETITIONS).map(|_| (proved(), model())).collect();
+    let ratio = median(times.iter().map(|(proved, model)| proved / model).collect());
+    let (proved, model): (Vec<f64>, Vec<f64>) = times.into_iter().unzip();
+    let (proved, model) = (median(proved) / nanoseconds, median(model) / nanoseconds);
+    println!("{what:<42} {unit:>4} {proved:>10.1} {model:>10.1} {ratio:>7.1}");
+}
+
+fn main() {
+    println!(
+        "{:<42} unit {:>10} {:>10} {:>7}",
+        "call", "proved", "model", "ratio"
+    );
+    line("tick", NANOSECOND, tick::<Station>(), tick::<Model>());
+    line(
+        "tick of a station that listens",
+        NANOSECOND,
+        tick_listening::<Station>(),
+        tick_listening::<Model>(),
+    );
+    line(
+        "hear a token frame, 1024 octets written",
+        NANOSECOND,
+        hear_token::<Station>(),
+        hear_token::<Model>(),
+    );
+    line(
+        "hear a block, 1024 octets kept",
+        NANOSECOND,
+        hear_block::<Station>(),
+        hear_block::<Model>(),
+    );
+    line(
+        "ask for a block, 1024 octets",
+        NANOSECOND,
+        ask_block::<Station>(),
+        ask_block::<Model>(),
+    );
+    line(
+        "ask for a block, alone in the list",
+        NANOSECOND,
+        ask_alone::<Station>(),
+        ask_alone::<Model>(),
+    );
+    for stations in [6, 64, 254] {
+        line(
+            &format!("one turn of a ring of {stations}, 64 octets each"),
+            MICROSECOND,
+            ring::<Station>(stations),
+            ring::<Model>(stations),
+        );
+    }
+}

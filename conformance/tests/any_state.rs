@@ -1,0 +1,166 @@
+//! Calls at any value of the state, also one that no calls lead to: each is answered, and the same
+//! way twice.
+
+use flnet_conformance::both::differences;
+use flnet_conformance::boundary::{
+    Answer, Areas, Core, Entry, Gathering, List, Panel, Part, Settings, Station,
+};
+use flnet_conformance::call::{perform, Buffers, Call};
+use flnet_conformance::choices::Choices;
+use flnet_conformance::names::*;
+use flnet_conformance::random::Random;
+
+/// A value of its range's ends or any other.
+fn any(random: &mut Random, ends: &[u32]) -> u32 {
+    match random.chance(70) {
+        true => random.pick(ends),
+        false => random.number() as u32,
+    }
+}
+
+fn any_octet(random: &mut Random, ends: &[u32]) -> u8 {
+    any(random, ends) as u8
+}
+
+fn any_areas(random: &mut Random) -> Areas {
+    let mut part = |words: u32| Part {
+        address: any(random, &[0, 1, words / 2, words]) as u16,
+        size: any(random, &[0, 1, words / 2, words]) as u16,
+    };
+    Areas {
+        one: part(512),
+        two: part(8192),
+    }
+}
+
+fn any_entry(random: &mut Random, listed_percent: usize) -> Entry {
+    Entry {
+        listed: random.chance(listed_percent),
+        areas: any_areas(random),
+        watch: random.octet(),
+        misses: any_octet(random, &[0, 1, 2, 3, 255]),
+    }
+}
+
+fn any_settings(random: &mut Random) -> Settings {
+    Settings {
+        number: any_octet(random, &[0, 1, 2, 254, 255]),
+        areas: any_areas(random),
+        watch: any_octet(random, &[0, 1, 255]),
+    }
+}
+
+fn any_core(random: &mut Random) -> Core {
+    let own = any_settings(random);
+    let number = u32::from(own.number);
+    let times = [
+        0,
+        1,
+        39,
+        40,
+        2549,
+        2550,
+        11_999,
+        12_000,
+        29_999,
+        30_000,
+        65_535,
+        65_536,
+        u32::MAX,
+    ];
+    Core {
+        phase: any_octet(random, &[0, 1, 2, 3, 4, 4, 4, 4, 5]),
+        own,
+        elapsed: any(random, &times),
+        waited: any(random, &times),
+        rounds: any_octet(random, &[0, 2, 3, 255]),
+        sent: random.chance(50),
+        view: any_octet(random, &[number, number, 0, 1, 254, 255]),
+        block: any_octet(random, &[0, 0, 0, 1, 16, 17, 255]),
+        gathering: Gathering {
+            source: any_octet(random, &[0, 1, 2, 255]),
+            blocks: any_octet(random, &[0, 1, 16, 17, 255]),
+        },
+        panel: Panel {
+            takings: any_octet(random, &[0, 1, 2, 3, 255]),
+            running: any(random, &times),
+            gap: any(random, &times),
+        },
+    }
+}
+
+fn any_list(random: &mut Random) -> List {
+    let listed_percent = random.pick(&[0, 2, 50, 100]);
+    let mut list = List::EMPTY;
+    for number in 0..=255 {
+        list.set(number, any_entry(random, listed_percent));
+    }
+    list
+}
+
+/// Any value of the state, also one that no calls lead to.
+fn any_station(random: &mut Random) -> Station {
+    Station {
+        core: any_core(random),
+        list: any_list(random),
+    }
+}
+
+fn any_call(choices: &mut Choices, station: &Station) -> Call {
+    match choices.random.below(10) {
+        0 => Call::Start(choices.settings()),
+        1 => Call::Stop,
+        2 | 3 => Call::Tick,
+        4..=6 => choices.ask(),
+        drawn => {
+            let frame = match drawn {
+                7 => choices.spoiled(station),
+                _ => choices.frame(station),
+            };
+            let octets = frame.octets(&mut choices.random);
+            choices.hear(octets)
+        }
+    }
+}
+
+/// The state as it counts: a number that is no phase's is off.
+fn counted(mut station: Station) -> Station {
+    if station.core.phase > PARTICIPATING {
+        station.core.phase = OFF;
+    }
+    station
+}
+
+/// A refused call leaves the state, but that 6 turns off a station that does not participate.
+fn check_refused(before: &Station, after: &Station, answer: &Answer) -> String {
+    let keeps = answer.refusal != 6 || before.core.phase == PARTICIPATING;
+    match answer.word == WORD_REFUSED && keeps {
+        true => differences(before, after),
+        false => String::new(),
+    }
+}
+
+/// The same call at a state and at what the state counts as: the same answer, state and buffers.
+#[test]
+fn any_state_is_answered_and_always_the_same() {
+    let mut random = Random::new(6553);
+    let mut once = Buffers::new(&mut random);
+    let mut again = once.clone();
+    let mut choices = Choices::new(random);
+    for round in 0..60_000 {
+        let station = any_station(&mut choices.random);
+        let call = any_call(&mut choices, &station);
+        let (mut first, mut second) = (station, counted(station));
+        let before = once.clone();
+        let answer = perform(&mut first, &call, &mut once);
+        let repeated = perform(&mut second, &call, &mut again);
+        let mut wrong = differences(&first, &second);
+        wrong += &check_refused(&counted(station), &first, &answer);
+        let what = || format!("round {round}, {}: {answer:?}\n{wrong}", call.describe());
+        assert!(answer == repeated && wrong.is_empty(), "{}", what());
+        assert!(once == again && first.show() == second.show(), "{}", what());
+        let lent = before.named().into_iter().zip(once.named()).skip(1);
+        let untouched = lent.into_iter().all(|(before, after)| before == after);
+        assert!(untouched || answer.word != WORD_REFUSED, "{}", what());
+    }
+}

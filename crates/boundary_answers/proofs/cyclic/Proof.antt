@@ -1,0 +1,20 @@
+-- `boundary_answers::cyclic` meets its contract.
+use borrow.Author.Needs.{needs}
+use Rattle.boundary_answers.proofs.cyclic.Statement.{statement}
+use Rattle.boundary_answers.proofs.cyclic.Tie as tie
+
+data-of-requires : tie.Need-data-of-requires
+data-of-requires c κs = search needs
+
+token-number-requires : tie.Need-token-number-requires
+token-number-requires c κs = search needs
+
+data-number-requires : tie.Need-data-number-requires
+data-number-requires c κs = search needs
+
+returns : tie.Need-returns
+returns c = rw (c .data-number .ensures, c .before .token-number .ensures, c .before .before .data-of .ensures)
+
+pub cyclic-spec : {M : Type 1} → statement M
+cyclic-spec =
+    tie.close (tie.spec data-of-requires token-number-requires data-number-requires returns)

@@ -1,0 +1,122 @@
+// The station's calls, on its core and its list in arrays. A call that leaves the list alone does not copy it.
+use boundary_core::Core;
+use boundary_core::Outcome;
+pub use boundary_counting::tick;
+use frame::Fields;
+use frame_reading::Read;
+pub use boundary_running::start;
+pub use boundary_running::stop;
+pub use boundary_showing::new;
+pub use boundary_showing::show;
+ghost use mathlib.Core.Path.{_≡_};
+ghost use Rattle.boundary_core.specs.Crossing.{coreOf, stationIn};
+ghost use Rattle.boundary_answers.specs.Numbers.{heardAnswer, askedAnswer};
+ghost use Rattle.boundary_lists.specs.Lists.{membersIn};
+ghost use Rattle.frame_reading.specs.Reading.{readOf};
+ghost use Rattle.frame_reading.specs.declared.Read.the-variants as reads;
+ghost use Rattle.station.specs.Rules.Asking.{askOf};
+ghost use Rattle.station.specs.Rules.Hearing.{hearOf};
+
+fn hear_frame(
+    core: Core,
+    listed: &mut [bool; 256],
+    areas: &mut [u16; boundary_lists::AREA_NUMBERS],
+    watch: &mut [u8; 256],
+    misses: &mut [u8; 256],
+    frame: Fields,
+    octets: &[u8],
+    memory: &mut [u8],
+    assembly: &mut [u8],
+) -> Outcome
+    requires { ⌜ readOf (now octets) ≡ reads.Frame frame ⌝ }
+    ensures { λ r. ⌜ r .core ≡ coreOf (hearOf (stationIn core (now (listed .entry)) (now (areas .entry)) (now (watch .entry)) (now (misses .entry))) (now (octets .entry)) (now (memory .entry)) (now (assembly .entry)) .station) ⌝ }
+    ensures { λ r. ⌜ r .answer ≡ heardAnswer (hearOf (stationIn core (now (listed .entry)) (now (areas .entry)) (now (watch .entry)) (now (misses .entry))) (now (octets .entry)) (now (memory .entry)) (now (assembly .entry)) .answer) ⌝ }
+    ensures { λ _. ⌜ now (memory .exit) ≡ hearOf (stationIn core (now (listed .entry)) (now (areas .entry)) (now (watch .entry)) (now (misses .entry))) (now (octets .entry)) (now (memory .entry)) (now (assembly .entry)) .memory ⌝ }
+    ensures { λ _. ⌜ now (assembly .exit) ≡ hearOf (stationIn core (now (listed .entry)) (now (areas .entry)) (now (watch .entry)) (now (misses .entry))) (now (octets .entry)) (now (memory .entry)) (now (assembly .entry)) .assembly ⌝ }
+    ensures { λ _. ⌜ membersIn (now (listed .exit)) (now (areas .exit)) (now (watch .exit)) (now (misses .exit)) ≡ hearOf (stationIn core (now (listed .entry)) (now (areas .entry)) (now (watch .entry)) (now (misses .entry))) (now (octets .entry)) (now (memory .entry)) (now (assembly .entry)) .station .members ⌝ }
+{
+    let source = frame.source;
+    let destination = frame.destination;
+    let sender = boundary_lists::is_listed(listed, source);
+    let taker = boundary_lists::is_listed(listed, destination);
+    let lent = (memory.len() == area::MEMORY_OCTETS) & (assembly.len() == area::MEMORY_OCTETS);
+    if boundary_participant::is_accepted(core, sender, taker, frame) & lent {
+        return boundary_in_place::hear(
+            core,
+            listed,
+            areas,
+            watch,
+            misses,
+            source,
+            destination,
+            frame,
+            octets,
+            memory,
+            assembly,
+        );
+    }
+    boundary_whole::hear(core, listed, areas, watch, misses, octets, memory, assembly)
+}
+
+pub fn hear(
+    core: Core,
+    listed: &mut [bool; 256],
+    areas: &mut [u16; boundary_lists::AREA_NUMBERS],
+    watch: &mut [u8; 256],
+    misses: &mut [u8; 256],
+    octets: &[u8],
+    memory: &mut [u8],
+    assembly: &mut [u8],
+) -> Outcome
+    ensures { λ r. ⌜ r .core ≡ coreOf (hearOf (stationIn core (now (listed .entry)) (now (areas .entry)) (now (watch .entry)) (now (misses .entry))) (now (octets .entry)) (now (memory .entry)) (now (assembly .entry)) .station) ⌝ }
+    ensures { λ r. ⌜ r .answer ≡ heardAnswer (hearOf (stationIn core (now (listed .entry)) (now (areas .entry)) (now (watch .entry)) (now (misses .entry))) (now (octets .entry)) (now (memory .entry)) (now (assembly .entry)) .answer) ⌝ }
+    ensures { λ _. ⌜ now (memory .exit) ≡ hearOf (stationIn core (now (listed .entry)) (now (areas .entry)) (now (watch .entry)) (now (misses .entry))) (now (octets .entry)) (now (memory .entry)) (now (assembly .entry)) .memory ⌝ }
+    ensures { λ _. ⌜ now (assembly .exit) ≡ hearOf (stationIn core (now (listed .entry)) (now (areas .entry)) (now (watch .entry)) (now (misses .entry))) (now (octets .entry)) (now (memory .entry)) (now (assembly .entry)) .assembly ⌝ }
+    ensures { λ _. ⌜ membersIn (now (listed .exit)) (now (areas .exit)) (now (watch .exit)) (now (misses .exit)) ≡ hearOf (stationIn core (now (listed .entry)) (now (areas .entry)) (now (watch .entry)) (now (misses .entry))) (now (octets .entry)) (now (memory .entry)) (now (assembly .entry)) .station .members ⌝ }
+{
+    match frame_body::read_frame(octets) {
+        Read::Frame(frame) => hear_frame(
+            core,
+            listed,
+            areas,
+            watch,
+            misses,
+            frame,
+            octets,
+            memory,
+            assembly,
+        ),
+        Read::Refused(_) => boundary_whole::hear(
+            core,
+            listed,
+            areas,
+            watch,
+            misses,
+            octets,
+            memory,
+            assembly,
+        ),
+    }
+}
+
+pub fn ask(
+    core: Core,
+    listed: &mut [bool; 256],
+    areas: &mut [u16; boundary_lists::AREA_NUMBERS],
+    watch: &mut [u8; 256],
+    misses: &mut [u8; 256],
+    memory: &[u8],
+    turn: &mut [u8],
+    output: &mut [u8],
+) -> Outcome
+    ensures { λ r. ⌜ r .core ≡ coreOf (askOf (stationIn core (now (listed .entry)) (now (areas .entry)) (now (watch .entry)) (now (misses .entry))) (now (memory .entry)) (now (turn .entry)) (now (output .entry)) .station) ⌝ }
+    ensures { λ r. ⌜ r .answer ≡ askedAnswer (askOf (stationIn core (now (listed .entry)) (now (areas .entry)) (now (watch .entry)) (now (misses .entry))) (now (memory .entry)) (now (turn .entry)) (now (output .entry)) .answer) ⌝ }
+    ensures { λ _. ⌜ now (turn .exit) ≡ askOf (stationIn core (now (listed .entry)) (now (areas .entry)) (now (watch .entry)) (now (misses .entry))) (now (memory .entry)) (now (turn .entry)) (now (output .entry)) .turn ⌝ }
+    ensures { λ _. ⌜ now (output .exit) ≡ askOf (stationIn core (now (listed .entry)) (now (areas .entry)) (now (watch .entry)) (now (misses .entry))) (now (memory .entry)) (now (turn .entry)) (now (output .entry)) .output ⌝ }
+    ensures { λ _. ⌜ membersIn (now (listed .exit)) (now (areas .exit)) (now (watch .exit)) (now (misses .exit)) ≡ askOf (stationIn core (now (listed .entry)) (now (areas .entry)) (now (watch .entry)) (now (misses .entry))) (now (memory .entry)) (now (turn .entry)) (now (output .entry)) .station .members ⌝ }
+{
+    if boundary_participant::holds_block(core) & asking_placing::is_lent_right(memory, turn, output) {
+        return boundary_in_place::ask(core, listed, areas, watch, misses, memory, turn, output);
+    }
+    boundary_whole::ask(core, listed, areas, watch, misses, memory, turn, output)
+}

@@ -1,0 +1,53 @@
+// The state as numbers, for C.
+mod across;
+
+pub use across::inner;
+pub use across::outer;
+pub use across::phase_of;
+pub use boundary_answers::Answer;
+pub use boundary_answers::Shown;
+pub use boundary_answers::asked_answer;
+pub use boundary_answers::done;
+pub use boundary_answers::figure_shown;
+pub use boundary_answers::frame_answer;
+pub use boundary_answers::heard_answer;
+pub use boundary_answers::switched_answer;
+pub use boundary_answers::ticked_answer;
+use panel::Panel;
+use station::Gathering;
+use station::Settings;
+use units::Ticks;
+
+// The phases' numbers. No other is a phase's.
+pub const OFF: u8 = 0;
+
+pub const LISTENING: u8 = 1;
+
+pub const STARTUP: u8 = 2;
+
+pub const JOINING: u8 = 3;
+
+pub const PARTICIPATING: u8 = 4;
+
+// A station's state without its list, its phase as a number. In this order it has 40 octets, which compilers copy in pieces that do not
+// overlap; 44 would be copied in pieces that do, and reading such a piece right after it was stored stalls the processor.
+#[repr(C)]
+pub struct Core {
+    pub phase: u8,
+    pub own: Settings,
+    pub view: u8,
+    pub block: u8,
+    pub elapsed: Ticks,
+    pub waited: Ticks,
+    pub rounds: u8,
+    pub sent: bool,
+    pub gathering: Gathering,
+    pub panel: Panel,
+}
+
+// A call's result: the state after it, and the answer.
+#[repr(C)]
+pub struct Outcome {
+    pub core: Core,
+    pub answer: Answer,
+}

@@ -1,0 +1,41 @@
+// A tick: on the core alone where it only counts, else on the whole station.
+use boundary_core::Core;
+use boundary_core::Outcome;
+use station::Ticked;
+ghost use mathlib.Core.Path.{_≡_};
+ghost use Rattle.boundary_core.specs.Crossing.{coreOf, stationIn};
+ghost use Rattle.boundary_answers.specs.Numbers.{tickedAnswer};
+ghost use Rattle.boundary_lists.specs.Lists.{membersIn};
+ghost use Rattle.station.specs.Rules.Ticking.{tickOf};
+
+pub fn tick(
+    core: Core,
+    listed: &mut [bool; 256],
+    areas: &mut [u16; boundary_lists::AREA_NUMBERS],
+    watch: &mut [u8; 256],
+    misses: &mut [u8; 256],
+) -> Outcome
+    ensures { λ r. ⌜ r .core ≡ coreOf (tickOf (stationIn core (now (listed .entry)) (now (areas .entry)) (now (watch .entry)) (now (misses .entry))) .station) ⌝ }
+    ensures { λ r. ⌜ r .answer ≡ tickedAnswer (tickOf (stationIn core (now (listed .entry)) (now (areas .entry)) (now (watch .entry)) (now (misses .entry))) .answer) ⌝ }
+    ensures { λ _. ⌜ membersIn (now (listed .exit)) (now (areas .exit)) (now (watch .exit)) (now (misses .exit)) ≡ tickOf (stationIn core (now (listed .entry)) (now (areas .entry)) (now (watch .entry)) (now (misses .entry))) .station .members ⌝ }
+{
+    if boundary_participant::is_quiet(core) {
+        return Outcome {
+            core: boundary_participant::quiet(core),
+            answer: boundary_core::done(),
+        };
+    }
+    if boundary_waiting::is_waiting(core) {
+        return Outcome {
+            core: boundary_waiting::count(core),
+            answer: boundary_core::done(),
+        };
+    }
+    if core.phase == boundary_core::OFF {
+        return Outcome {
+            core,
+            answer: boundary_core::ticked_answer(Ticked::Off),
+        };
+    }
+    boundary_running::tick(core, listed, areas, watch, misses)
+}

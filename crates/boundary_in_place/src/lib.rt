@@ -1,0 +1,75 @@
+// A participant's calls with the list in place: a cyclic frame that is accepted, and a holder's block.
+use boundary_core::Core;
+use boundary_core::Outcome;
+use boundary_core::frame_answer;
+use boundary_heard::hear_accepted;
+use boundary_participant::sent_block;
+use frame::Fields;
+ghost use mathlib.Core.Path.{_≡_};
+ghost use mathlib.Core.Bool.{true, false};
+ghost use lib.ListN.{getD};
+ghost use Rattle.boundary_core.specs.Crossing.{coreOf, stationIn};
+ghost use Rattle.boundary_answers.specs.Numbers.{heardAnswer, askedAnswer};
+ghost use Rattle.boundary_participant.specs.Quick.{isAccepted, holdsBlock};
+ghost use Rattle.boundary_lists.specs.Lists.{membersIn};
+ghost use Rattle.frame_reading.specs.Reading.{readOf};
+ghost use Rattle.frame_reading.specs.declared.Read.the-variants as reads;
+ghost use Rattle.station.specs.Rules.Asking as asks;
+ghost use Rattle.station.specs.Rules.Hearing.{lentRight, hearOf};
+
+// The numbers of source and destination are given apart, for the places that they have in the list.
+pub fn hear(
+    core: Core,
+    listed: &mut [bool; 256],
+    areas: &mut [u16; boundary_lists::AREA_NUMBERS],
+    watch: &mut [u8; 256],
+    misses: &mut [u8; 256],
+    source: u8,
+    destination: u8,
+    frame: Fields,
+    octets: &[u8],
+    memory: &mut [u8],
+    assembly: &mut [u8],
+) -> Outcome
+    requires { ⌜ isAccepted core (getD (now listed) (frame .source) false) (getD (now listed) (frame .destination) false) frame ≡ true ⌝ }
+    requires { ⌜ lentRight (now memory) (now assembly) ≡ true ⌝ }
+    requires { ⌜ readOf (now octets) ≡ reads.Frame frame ⌝ }
+    requires { ⌜ source ≡ frame .source ⌝ }
+    requires { ⌜ destination ≡ frame .destination ⌝ }
+    ensures { λ r. ⌜ r .core ≡ coreOf (hearOf (stationIn core (now (listed .entry)) (now (areas .entry)) (now (watch .entry)) (now (misses .entry))) (now (octets .entry)) (now (memory .entry)) (now (assembly .entry)) .station) ⌝ }
+    ensures { λ r. ⌜ r .answer ≡ heardAnswer (hearOf (stationIn core (now (listed .entry)) (now (areas .entry)) (now (watch .entry)) (now (misses .entry))) (now (octets .entry)) (now (memory .entry)) (now (assembly .entry)) .answer) ⌝ }
+    ensures { λ _. ⌜ now (memory .exit) ≡ hearOf (stationIn core (now (listed .entry)) (now (areas .entry)) (now (watch .entry)) (now (misses .entry))) (now (octets .entry)) (now (memory .entry)) (now (assembly .entry)) .memory ⌝ }
+    ensures { λ _. ⌜ now (assembly .exit) ≡ hearOf (stationIn core (now (listed .entry)) (now (areas .entry)) (now (watch .entry)) (now (misses .entry))) (now (octets .entry)) (now (memory .entry)) (now (assembly .entry)) .assembly ⌝ }
+    ensures { λ _. ⌜ membersIn (now (listed .exit)) (now (areas .exit)) (now (watch .exit)) (now (misses .exit)) ≡ hearOf (stationIn core (now (listed .entry)) (now (areas .entry)) (now (watch .entry)) (now (misses .entry))) (now (octets .entry)) (now (memory .entry)) (now (assembly .entry)) .station .members ⌝ }
+{
+    let entry = boundary_lists::entry_at(listed, areas, watch, misses, source);
+    let parts = entry.areas;
+    boundary_lists::clear(misses, source);
+    hear_accepted(core, parts, frame, octets, memory, assembly)
+}
+
+pub fn ask(
+    core: Core,
+    listed: &[bool; 256],
+    areas: &[u16; boundary_lists::AREA_NUMBERS],
+    watch: &[u8; 256],
+    misses: &[u8; 256],
+    memory: &[u8],
+    turn: &mut [u8],
+    output: &mut [u8],
+) -> Outcome
+    requires { ⌜ holdsBlock core ≡ true ⌝ }
+    requires { ⌜ asks.lentRight (now memory) (now turn) (now output) ≡ true ⌝ }
+    ensures { λ r. ⌜ r .core ≡ coreOf (asks.askOf (stationIn core (now (listed .entry)) (now (areas .entry)) (now (watch .entry)) (now (misses .entry))) (now (memory .entry)) (now (turn .entry)) (now (output .entry)) .station) ⌝ }
+    ensures { λ r. ⌜ r .answer ≡ askedAnswer (asks.askOf (stationIn core (now (listed .entry)) (now (areas .entry)) (now (watch .entry)) (now (misses .entry))) (now (memory .entry)) (now (turn .entry)) (now (output .entry)) .answer) ⌝ }
+    ensures { λ _. ⌜ now (turn .exit) ≡ asks.askOf (stationIn core (now (listed .entry)) (now (areas .entry)) (now (watch .entry)) (now (misses .entry))) (now (memory .entry)) (now (turn .entry)) (now (output .entry)) .turn ⌝ }
+    ensures { λ _. ⌜ now (output .exit) ≡ asks.askOf (stationIn core (now (listed .entry)) (now (areas .entry)) (now (watch .entry)) (now (misses .entry))) (now (memory .entry)) (now (turn .entry)) (now (output .entry)) .output ⌝ }
+{
+    let own = core.own;
+    let next = boundary_flags::next_after(own.number, listed, own.number);
+    let octets = asking_sending::send_next(own, core.block, next, memory, turn, output);
+    Outcome {
+        core: sent_block(core, next),
+        answer: frame_answer(octets),
+    }
+}

@@ -1,0 +1,35 @@
+-- `boundary_running::stop` meets its contract.
+use Rattle.boundary_answers.specs.Numbers.{switchedAnswer}
+use Rattle.boundary_core.specs.Crossing.{coreOf}
+use Rattle.station.specs.declared.Station.{Station}
+use Rattle.station.specs.Rules.Starting.{stopOf}
+use mathlib.Core.Path.{ap, _∙_}
+use borrow.Author.Needs.{needs}
+use Rattle.boundary_running.proofs.stop.Statement.{statement}
+use Rattle.boundary_running.proofs.stop.Tie as tie
+
+station-of-requires : tie.Need-station-of-requires
+station-of-requires c κs = search needs
+
+stop-requires : tie.Need-stop-requires
+stop-requires c κs = search needs
+
+switched-answer-requires : tie.Need-switched-answer-requires
+switched-answer-requires c κs = search needs
+
+keep-requires : tie.Need-keep-requires
+keep-requires c κs = search needs
+
+returns : tie.Need-returns
+returns c =
+    let known = c .before .before .before .before .before .before .before .before .station-of .ensures in
+    let done = c .before .before .before .before .before .before .before .stop .ensures in
+    let kept = c .keep .ensures in
+    let after = done .0 ∙ ap (λ (s : Station). stopOf s .station) known in
+    let answer = done .1 ∙ ap (λ (s : Station). stopOf s .answer) known in
+    (kept .0 ∙ ap coreOf after, (kept .1 .0 ∙ (c .before .before .before .before .before .switched-answer .ensures ∙ ap switchedAnswer answer), kept .1 .1 ∙ ap (λ (s : Station). s .members) after))
+
+pub stop-spec : {M : Type 1} → statement M
+stop-spec =
+    tie.close
+    (tie.spec station-of-requires stop-requires switched-answer-requires keep-requires returns)

@@ -1,0 +1,31 @@
+// A new station, and what a station's front panel shows.
+use boundary_core::Core;
+use boundary_core::Shown;
+ghost use mathlib.Core.Path.{_≡_};
+ghost use Rattle.boundary_core.specs.Crossing.{coreOf, figureIn};
+ghost use Rattle.boundary_answers.specs.Numbers.{figureNumbers};
+ghost use Rattle.boundary_lists.specs.Lists.{membersIn};
+ghost use Rattle.members.specs.Members.{noMembers};
+ghost use Rattle.station.specs.Rules.State.{never};
+
+// A station that was never started: its state, and its list, which is empty.
+pub fn new(
+    listed: &mut [bool; 256],
+    areas: &mut [u16; boundary_lists::AREA_NUMBERS],
+    watch: &mut [u8; 256],
+    misses: &mut [u8; 256],
+) -> Core
+    ensures { λ r. ⌜ r ≡ coreOf never ⌝ }
+    ensures { λ _. ⌜ membersIn (now (listed .exit)) (now (areas .exit)) (now (watch .exit)) (now (misses .exit)) ≡ noMembers ⌝ }
+{
+    boundary_storing::write(members::no_members(), listed, areas, watch, misses);
+    boundary_core::outer(phases::never())
+}
+
+// What the front panel shows. The list does not matter to it.
+pub fn show(core: Core) -> Shown
+    ensures { λ r. ⌜ r ≡ figureNumbers (figureIn core) ⌝ }
+{
+    let panel = core.panel;
+    boundary_core::figure_shown(phases::figure_in(boundary_core::phase_of(core.phase), panel))
+}

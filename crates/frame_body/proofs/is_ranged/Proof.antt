@@ -1,0 +1,16 @@
+-- `frame_body::is_ranged` meets its contract.
+use borrow.Author.Needs.{needs}
+use Rattle.frame_body.proofs.is_ranged.Statement.{statement}
+use Rattle.frame_body.proofs.is_ranged.Tie as tie
+
+carries-areas-requires : tie.Need-carries-areas-requires
+carries-areas-requires c κs = search needs
+
+in-range-requires : tie.Need-in-range-requires
+in-range-requires c κs = search needs
+
+returns : tie.Need-returns
+returns c = cc
+
+pub is-ranged-spec : {M : Type 1} → statement M
+is-ranged-spec = tie.close (tie.spec carries-areas-requires in-range-requires returns)

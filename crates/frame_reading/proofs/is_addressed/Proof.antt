@@ -1,0 +1,20 @@
+-- `frame_reading::is_addressed` meets its contract.
+use borrow.Author.Needs.{needs}
+use Rattle.frame_reading.proofs.is_addressed.Statement.{statement}
+use Rattle.frame_reading.proofs.is_addressed.Tie as tie
+
+is-station-requires : tie.Need-is-station-requires
+is-station-requires c κs = search needs
+
+is-token-requires : tie.Need-is-token-requires
+is-token-requires c κs = search needs
+
+is-station-requires-2 : tie.Need-is-station-requires-2
+is-station-requires-2 c κs = search needs
+
+returns : tie.Need-returns
+returns c = cc
+
+pub is-addressed-spec : {M : Type 1} → statement M
+is-addressed-spec =
+    tie.close (tie.spec is-station-requires is-token-requires is-station-requires-2 returns)

@@ -1,0 +1,20 @@
+-- `frame_writing::fixed_request` meets its contract.
+use native.Mathlib.Omega.{arith}
+use Rattle.frame_writing.proofs.Sizes.{data-within}
+use Rattle.frame_writing.specs.Writing.{fixedFor}
+use borrow.Author.Needs.{needs}
+use Rattle.frame_writing.proofs.fixed_request.Statement.{statement}
+use Rattle.frame_writing.proofs.fixed_request.Tie as tie
+
+whole-length-requires : tie.Need-whole-length-requires
+whole-length-requires c κs = search needs
+
+cast-fixed : tie.Need-cast-fixed
+cast-fixed c = omega (arith, data-within (c .before .args .fields))
+
+returns : tie.Need-returns
+unfolding fixedFor
+returns c = cc
+
+pub fixed-request-spec : {M : Type 1} → statement M
+fixed-request-spec = tie.close (tie.spec whole-length-requires cast-fixed returns)

@@ -1,0 +1,18 @@
+-- `frame_writing::whole_length` meets its contract.
+use native.Mathlib.Omega.{arith}
+use Rattle.frame_writing.proofs.Sizes.{data-within}
+use borrow.Author.Needs.{needs}
+use Rattle.frame_writing.proofs.whole_length.Statement.{statement}
+use Rattle.frame_writing.proofs.whole_length.Tie as tie
+
+data-size-requires : tie.Need-data-size-requires
+data-size-requires c κs = search needs
+
+add-result : tie.Need-add-result
+add-result c = omega (arith, data-within (c .before .args .fields))
+
+returns : tie.Need-returns
+returns c = search needs
+
+pub whole-length-spec : {M : Type 1} → statement M
+whole-length-spec = tie.close (tie.spec data-size-requires add-result returns)

@@ -1,0 +1,24 @@
+-- `hearing_entering::request` meets its contract.
+use mathlib.Core.Path.{_∙_}
+use borrow.Author.Needs.{needs}
+use Rattle.hearing_entering.proofs.request.Statement.{statement}
+use Rattle.hearing_entering.proofs.request.Tie as tie
+
+ours-due-requires : tie.Need-ours-due-requires
+ours-due-requires c κs = search needs
+
+list-requires : tie.Need-list-requires
+list-requires c κs = search needs
+
+without-requires : tie.Need-without-requires
+without-requires c κs = search needs
+
+relist-requires : tie.Need-relist-requires
+relist-requires c κs = search needs
+
+returns : tie.Need-returns
+returns c = c .relist .ensures ∙ rw (c .before .without .ensures, c .before .before .list .ensures, c .before .before .before .ours-due .ensures)
+
+pub request-spec : {M : Type 1} → statement M
+request-spec =
+    tie.close (tie.spec ours-due-requires list-requires without-requires relist-requires returns)

@@ -1,0 +1,34 @@
+-- `hearing_entering::rounds_after` meets its contract.
+use mathlib.Core.Path.{_≡_, sym, _∙_}
+use Prim.Native.Nat.{_+_, min}
+use native.Mathlib.Omega.{arith}
+use borrow.Author.Tests.{not-true, not-false}
+use borrow.Author.Needs.{needs}
+use Rattle.hearing_entering.proofs.rounds_after.Statement.{statement}
+use Rattle.hearing_entering.proofs.rounds_after.Tie as tie
+
+ends-round-requires : tie.Need-ends-round-requires
+ends-round-requires c κs = search needs
+
+returns : tie.Need-returns
+returns c =
+    let on = sym (c .before .ends-round .ensures) ∙ not-true _ (c .if1 .taken) in
+    rw on
+
+add-result : tie.Need-add-result
+add-result c = search needs
+
+returns-2 : tie.Need-returns-2
+returns-2 c =
+    let end = sym (c .before .before .ends-round .ensures) ∙ not-false _ (c .before .if1 .left) in
+    let more : min 3 (c .before .before .before .args .rounds + 1) ≡ c .before .before .before .args .rounds + 1 = omega arith in
+    rw (end, more)
+
+returns-3 : tie.Need-returns-3
+returns-3 c =
+    let end = sym (c .before .before .ends-round .ensures) ∙ not-false _ (c .before .if1 .left) in
+    let most : min 3 (c .before .before .before .args .rounds + 1) ≡ 3 = omega arith in
+    rw (end, most)
+
+pub rounds-after-spec : {M : Type 1} → statement M
+rounds-after-spec = tie.close (tie.spec ends-round-requires returns add-result returns-2 returns-3)

@@ -1,0 +1,24 @@
+-- `replay_performing::tick` meets its contract.
+use mathlib.Core.Path.{ap, _∙_}
+use lib.ListN.{length}
+use Rattle.copying.specs.Pasted.{pasted}
+use Rattle.replay_reply_words.specs.Answers.{tickedText}
+use borrow.Author.Needs.{needs}
+use Rattle.replay_performing.proofs.tick.Statement.{statement}
+use Rattle.replay_performing.proofs.tick.Tie as tie
+
+tick-many-requires : tie.Need-tick-many-requires
+tick-many-requires c κs = search needs
+
+put-ticked-requires : tie.Need-put-ticked-requires
+put-ticked-requires c κs = search needs
+
+returns : tie.Need-returns
+returns c =
+    let done = c .before .before .before .tick-many .ensures in
+    let text = c .put-ticked .ensures in
+    let same = ap tickedText (done .1) in
+    (done .0, (text .0 ∙ ap length same, text .1 ∙ ap (pasted (c .before .before .before .before .args .answer .now) 0) same))
+
+pub tick-spec : {M : Type 1} → statement M
+tick-spec = tie.close (tie.spec tick-many-requires put-ticked-requires returns)

@@ -1,0 +1,12 @@
+-- How long words can be. Assumes nothing.
+use Prim.Native.Nat.{_≤_}
+use native.Mathlib.Omega.{arith}
+use lib.ListN.{length}
+use Rattle.station.specs.declared.Data.{Data}
+use Rattle.station.specs.declared.Data.the-variants.{Kept, Written, Dropped}
+use Rattle.replay_reply_outcome.specs.Outcome.{dataWord}
+
+pub data-length : (outcome : Data) → length (dataWord outcome) ≤ 7
+data-length Kept = omega arith
+data-length Written = omega arith
+data-length Dropped = omega arith

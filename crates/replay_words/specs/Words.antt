@@ -1,0 +1,44 @@
+-- The words of a line, and words as numbers. Words in quotes are those of the table of commands.
+use Prim.Native.Nat.{ℕ}
+use mathlib.Core.Bool.{Bool, true, false, _&&_}
+use mathlib.Core.List.{List, [], _∷_}
+use lib.Dec.{eqb}
+use lib.ListN.{length, getD}
+use Rattle.text.specs.Lines.{space}
+use Rattle.text_reading.specs.Parts.{partsOf, partsBehind, endOf}
+use Rattle.text_reading.specs.Values.{decimalIn, numberOr}
+use Rattle.replay_words.specs.declared.Number.{Number}
+
+-- whether a line begins with a word, and whether it is that word
+abbrev pub begins : List ℕ → List ℕ → Bool
+begins [] line = true
+begins (letter ∷ word) [] = false
+begins (letter ∷ word) (octet ∷ line) = eqb octet letter && begins word line
+
+abbrev pub same : List ℕ → List ℕ → Bool
+same word line = eqb (length line) (length word) && begins word line
+
+-- "One space between words, none elsewhere": the words of a line, parted by each of its spaces. A second space beside another, and one at
+-- an end of the line, leaves an empty word, which is neither a number nor spells octets.
+abbrev pub wordsOf : List ℕ → List (List ℕ)
+wordsOf line = partsOf space line
+
+-- the words behind the space at a place of the line: none where the line has ended
+abbrev pub wordsBehind : List ℕ → ℕ → List (List ℕ)
+wordsBehind line place = partsBehind space line place
+
+-- what stands for a word that is no number, and for a number above 1,000,000: it is out of every range of the table
+abbrev pub none : ℕ
+none = 1000001
+
+-- "decimal without leading zeros (0 itself is `0`)"
+abbrev pub decimal : List ℕ → ℕ
+decimal word = numberOr none (decimalIn 1000000 word)
+
+-- the number that a word is, of some words counted from 0; a word that is not there is no number
+abbrev pub numberIn : List (List ℕ) → ℕ → ℕ
+numberIn words i = decimal (getD words i [])
+
+-- the first word behind the space at a place, as a number, and the place where it ends
+abbrev pub numberAt : List ℕ → ℕ → Number
+numberAt line place = record { value = numberIn (wordsBehind line place) 0; end = endOf space line place }
