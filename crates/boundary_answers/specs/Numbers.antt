@@ -3,21 +3,14 @@
 use Prim.Native.Nat.{ℕ}
 use mathlib.Core.Bool.{cond}
 use Rattle.frame.specs.Refusals.{numberOf}
-use Rattle.frame.specs.declared.Refusal.{Refusal}
 use Rattle.panel.specs.Panel.{isOver, shown}
-use Rattle.panel.specs.declared.Figure.{Figure}
 use Rattle.panel.specs.declared.Figure.the-variants.{Nothing, Over, Gap}
 use Rattle.station.specs.Rules.Answers.{dataNumber, tokenNumber, dataOf}
-use Rattle.station.specs.declared.Asked.{Asked}
 use Rattle.station.specs.declared.Asked.the-variants as asked
-use Rattle.station.specs.declared.Heard.{Heard}
 use Rattle.station.specs.declared.Heard.the-variants as heard
-use Rattle.station.specs.declared.Switched.{Switched}
 use Rattle.station.specs.declared.Switched.the-variants as switched
-use Rattle.station.specs.declared.Ticked.{Ticked}
 use Rattle.station.specs.declared.Ticked.the-variants as ticked
-use Rattle.station.specs.declared.Token.{Token}
-use Rattle.units.specs.declared.Ticks.{Ticks}
+use Rattle.station.specs.Types.{Ticks, Refusal, Figure, Token, Switched, Ticked, Heard, Asked}
 use Rattle.boundary_answers.specs.declared.Answer.{Answer}
 use Rattle.boundary_answers.specs.declared.Shown.{Shown}
 

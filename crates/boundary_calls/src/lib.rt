@@ -2,12 +2,12 @@
 use boundary_core::Core;
 use boundary_core::Outcome;
 pub use boundary_counting::tick;
-use frame::Fields;
-use frame_reading::Read;
 pub use boundary_running::start;
 pub use boundary_running::stop;
 pub use boundary_showing::new;
 pub use boundary_showing::show;
+use frame::Fields;
+use frame_reading::Read;
 ghost use mathlib.Core.Path.{_≡_};
 ghost use Rattle.boundary_core.specs.Crossing.{coreOf, stationIn};
 ghost use Rattle.boundary_answers.specs.Numbers.{heardAnswer, askedAnswer};
@@ -115,7 +115,9 @@ pub fn ask(
     ensures { λ _. ⌜ now (output .exit) ≡ askOf (stationIn core (now (listed .entry)) (now (areas .entry)) (now (watch .entry)) (now (misses .entry))) (now (memory .entry)) (now (turn .entry)) (now (output .entry)) .output ⌝ }
     ensures { λ _. ⌜ membersIn (now (listed .exit)) (now (areas .exit)) (now (watch .exit)) (now (misses .exit)) ≡ askOf (stationIn core (now (listed .entry)) (now (areas .entry)) (now (watch .entry)) (now (misses .entry))) (now (memory .entry)) (now (turn .entry)) (now (output .entry)) .station .members ⌝ }
 {
-    if boundary_participant::holds_block(core) & asking_placing::is_lent_right(memory, turn, output) {
+    if boundary_participant::holds_block(core)
+        & asking_placing::is_lent_right(memory, turn, output)
+    {
         return boundary_in_place::ask(core, listed, areas, watch, misses, memory, turn, output);
     }
     boundary_whole::ask(core, listed, areas, watch, misses, memory, turn, output)

@@ -18,7 +18,10 @@ pub fn station_of(
 ) -> Station
     ensures { λ r. ⌜ r ≡ stationIn core (now (listed .entry)) (now (areas .entry)) (now (watch .entry)) (now (misses .entry)) ⌝ }
 {
-    inner(core, boundary_lists::members_of(listed, areas, watch, misses))
+    inner(
+        core,
+        boundary_lists::members_of(listed, areas, watch, misses),
+    )
 }
 
 // The state after a call, its list in the arrays.

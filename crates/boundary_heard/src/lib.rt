@@ -1,6 +1,6 @@
 // An accepted cyclic frame heard by a participant, on its core alone.
-use boundary_answers::cyclic;
 use area::Areas;
+use boundary_answers::cyclic;
 use boundary_core::Core;
 use boundary_core::Outcome;
 use frame::Fields;

@@ -11,14 +11,11 @@ use borrow.Author.Tests.{eqb-true, not-true}
 use Rattle.station.specs.Rules.Asking.{placedIn, lastIn, nextFields, turnFor}
 use Rattle.block.specs.Blocks.{startOf}
 use Rattle.frame.specs.Codes.{isToken, isCyclic}
-use Rattle.frame.specs.declared.Fields.{Fields}
 use Rattle.hearing_data.specs.Body.{body-read}
 use Rattle.laws.specs.Tests.{first, second}
 use Rattle.members.specs.Members.{isListed, nextAfter}
-use Rattle.members.specs.declared.Members.{Members}
 use Rattle.panel.specs.Panel.{ticked, taken}
 use Rattle.frame_reading.specs.Reading.{andThen, readOf, readHeaderOf, readBodyOf, dataOf}
-use Rattle.frame_reading.specs.declared.Read.{Read}
 use Rattle.frame_reading.specs.declared.Read.the-variants as reads
 use Rattle.frame_round_trip.specs.Accepted.{bodied}
 use Rattle.station.specs.Rules.Answers.{phaseNumber}
@@ -30,8 +27,7 @@ use Rattle.station.specs.Rules.Ticking.{tickOf, later}
 use Rattle.station.specs.Rules.Token.{takes}
 use Rattle.station.specs.Rules.Waits.{watchTicks, longestWatch}
 use Rattle.station.specs.declared.Asked.the-variants.{Octets}
-use Rattle.station.specs.declared.Gathering.{Gathering}
-use Rattle.station.specs.declared.Phase.the-variants.{Participating}
+use Rattle.station.specs.Types.{Fields, Read, Members, Participating, Gathering}
 use Rattle.station.specs.declared.Ticked.the-variants.{Done}
 use Rattle.frame_writing.specs.Writing.{wholeLength, outputOf}
 use Rattle.boundary_core.specs.Crossing.{stationOf, coreOf, isIn}

@@ -5,17 +5,12 @@ use mathlib.Core.List.{List, [], _∷_}
 use Prim.Native.Nat.{ℕ, _-_, min}
 use lib.Dec.{eqb}
 use lib.ListN.{replicate}
-use Rattle.area.specs.declared.Areas.{Areas}
-use Rattle.area.specs.declared.Part.{Part}
 use Rattle.block.specs.Blocks.{blocksOf, lengthOf}
 use Rattle.frame.specs.Refusals.{numberOf}
-use Rattle.frame.specs.declared.Code.{Code}
 use Rattle.frame.specs.declared.Code.the-variants.{Token, Cyclic, Request}
 use Rattle.members.specs.Listing.{listing}
 use Rattle.members.specs.Members.{noMembers, nextAfter}
-use Rattle.members.specs.declared.Members.{Members}
 use Rattle.frame_reading.specs.Reading.{fieldsOf, readOf}
-use Rattle.frame_reading.specs.declared.Read.{Read}
 use Rattle.frame_reading.specs.declared.Read.the-variants as reads
 use Rattle.settle_input.specs.Input.{linesOf, entryOf, formsFrom}
 use Rattle.settle_rest.specs.Whole.{stepLines, outputOf}
@@ -23,9 +18,7 @@ use Rattle.settle_run.specs.Run.{runFrom}
 use Rattle.station.specs.Rules.Starting.{Switching, startOf}
 use Rattle.station.specs.Rules.State.{never}
 use Rattle.station.specs.Rules.Token.{viewAfter}
-use Rattle.station.specs.declared.Settings.{Settings}
-use Rattle.station.specs.declared.Station.{Station}
-use Rattle.station.specs.declared.Switched.{Switched}
+use Rattle.station.specs.Types.{Areas, Part, Code, Read, Members, Settings, Station, Switched}
 use Rattle.station.specs.declared.Switched.the-variants as switches
 use Rattle.text.specs.Decimal.{decimalAt}
 use Rattle.frame_writing.specs.Writing.{noAreas, noWatch, fixedFor, headerOf, frameOf}

@@ -10,11 +10,9 @@ use Rattle.boundary_answers.specs.Numbers.{switchedAnswer, tickedAnswer, heardA
 use Rattle.boundary_answers.specs.declared.Answer.{Answer}
 use Rattle.boundary_core.specs.declared.Core.{Core}
 use Rattle.frame.specs.Refusals.{numberOf}
-use Rattle.frame.specs.declared.Refusal.{Refusal}
 use Rattle.frame.specs.declared.Refusal.the-variants as refusals
 use Rattle.boundary_lists.specs.Laws.{list-told}
 use Rattle.boundary_lists.specs.Lists.{membersIn}
-use Rattle.members.specs.declared.Members.{Members}
 use Rattle.station.specs.Rules.Answers.{phaseNumber}
 use Rattle.station.specs.Rules.Asking.{askOf}
 use Rattle.station.specs.Rules.Calls.{Call, start, stop, tick, hear, ask, after, lent, Verdict, refusedBy, taken, verdict, switchedVerdict, heardVerdict, askedVerdict}
@@ -23,16 +21,10 @@ use Rattle.station.specs.RefusedLeft.{Spared, same, turnedOff, Left, refused-le
 use Rattle.station.specs.Rules.Starting.{startOf, stopOf}
 use Rattle.station.specs.Rules.State.{isParticipating, stopped}
 use Rattle.station.specs.Rules.Ticking.{tickOf}
-use Rattle.station.specs.declared.Asked.{Asked}
 use Rattle.station.specs.declared.Asked.the-variants as asked
-use Rattle.station.specs.declared.Heard.{Heard}
-use Rattle.station.specs.declared.Phase.{Phase}
-use Rattle.station.specs.declared.Phase.the-variants.{Off, Listening, Startup, Joining, Participating}
 use Rattle.station.specs.declared.Heard.the-variants as heard
-use Rattle.station.specs.declared.Station.{Station}
-use Rattle.station.specs.declared.Switched.{Switched}
 use Rattle.station.specs.declared.Switched.the-variants as switched
-use Rattle.station.specs.declared.Ticked.{Ticked}
+use Rattle.station.specs.Types.{Refusal, Members, Phase, Off, Listening, Startup, Joining, Participating, Station, Switched, Ticked, Heard, Asked}
 use Rattle.station.specs.declared.Ticked.the-variants as ticked
 use Rattle.delivered.specs.Boxes.{Box, stationAt, answerOf, Done}
 

@@ -9,10 +9,9 @@ use Rattle.area.specs.Areas.{inRange, memoryOctets}
 use Rattle.block.specs.Blocks.{startOf}
 use Rattle.block.specs.Cut.{within, fits}
 use Rattle.frame.specs.Codes.{isCyclic, carriesAreas}
-use Rattle.frame.specs.declared.Fields.{Fields}
 use Rattle.laws.specs.Tests.{implied}
 use Rattle.frame_reading.specs.Reading.{blocked, readBodyOf, dataSize, dataOf}
-use Rattle.frame_reading.specs.declared.Read.the-variants.{Frame}
+use Rattle.station.specs.Types.{Fields, Frame}
 use Rattle.frame_round_trip.specs.Accepted.{bodied}
 use Rattle.frame_round_trip.specs.Shown.{is-blocked, cyclic-carries}
 

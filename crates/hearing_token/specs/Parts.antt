@@ -4,11 +4,8 @@ use mathlib.Core.Bool.{cond, not}
 use mathlib.Core.Path.{_≡_, refl}
 use lib.Dec.{eqb}
 use Rattle.frame.specs.Codes.{isToken}
-use Rattle.frame.specs.declared.Fields.{Fields}
 use Rattle.station.specs.Rules.Token.{takes, viewHeard, outcomeOf}
-use Rattle.station.specs.declared.Data.{Data}
-use Rattle.station.specs.declared.Station.{Station}
-use Rattle.station.specs.declared.Token.{Token}
+use Rattle.station.specs.Types.{Fields, Station, Data, Token}
 use Rattle.station.specs.declared.Token.the-variants.{None, PassedOn, OursNow, RivalPassedOver, RivalWon}
 
 abbrev pub outcomeBy : ℕ → ℕ → Fields → Data → Token

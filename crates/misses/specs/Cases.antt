@@ -5,15 +5,13 @@ use mathlib.Core.Bool.{Bool, true, false}
 use mathlib.Core.List.{List, [], _∷_, _++_}
 use Prim.Native.Nat.{ℕ}
 use lib.ListN.{replicate}
-use Rattle.frame.specs.declared.Fields.{Fields}
 use Rattle.members.specs.Members.{isListed}
 use Rattle.frame_reading.specs.Reading.{fieldsOf, readOf}
 use Rattle.frame_round_trip.specs.Sent.{blockFields, requestFields}
 use Rattle.station.specs.Rules.Calls.{Call, start, tick, hear, ask}
 use Rattle.station.specs.Panel.History.{history, stateAfter}
 use Rattle.station.specs.Rules.State.{never}
-use Rattle.station.specs.declared.Settings.{Settings}
-use Rattle.units.specs.declared.Milliseconds.{Milliseconds}
+use Rattle.station.specs.Types.{Milliseconds, Fields, Settings}
 use Rattle.frame_writing.specs.Writing.{noAreas, frameOf, headerOf, frontOf, backOf, fixedFor}
 use Rattle.misses.specs.MissHistory.{missesSaid, endsThird}
 use Rattle.misses.specs.WatchHistory.{watchRun}

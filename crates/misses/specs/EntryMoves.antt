@@ -8,13 +8,10 @@ use lib.Dec.{eqb}
 use lib.ListN.{getD, set}
 use lib.Seq.{getD-set-other}
 use borrow.Author.Tests.{eqb-true, eqb-false, eq-eqb, ne-eqb, leb-true, leb-false}
-use Rattle.area.specs.declared.Areas.{Areas}
 use Rattle.members.specs.Listing.{listing}
 use Rattle.members.specs.Members.{nobody, noMembers, entryOf, isListed, withEntry, missesSet, cleared, struck, strikes, missed}
-use Rattle.members.specs.declared.Entry.{Entry}
-use Rattle.members.specs.declared.Members.{Members}
 use Rattle.station.specs.States.ListKept.{none-listed}
-use Rattle.units.specs.declared.Milliseconds.{Milliseconds}
+use Rattle.station.specs.Types.{Milliseconds, Areas, Entry, Members}
 use Rattle.misses.specs.MissHistory.{missesAfter, isThird}
 
 -- an entry that carries the misses that the history says, and may yet get one

@@ -5,14 +5,11 @@ use mathlib.Core.List.{List, []}
 use Prim.Native.Nat.{ℕ}
 use lib.Dec.{eqb, ltb}
 use Rattle.frame.specs.Codes.{isCyclic}
-use Rattle.frame.specs.declared.Code.{Code}
 use Rattle.frame.specs.declared.Code.the-variants.{Token, Cyclic, Request, Trigger}
-use Rattle.frame.specs.declared.Fields.{Fields}
 use Rattle.frame.specs.declared.Refusal.the-variants as refusals
 use Rattle.members.specs.Listing.{listing}
 use Rattle.members.specs.Members.{entryOf, isListed}
 use Rattle.frame_reading.specs.Reading.{readOf}
-use Rattle.frame_reading.specs.declared.Read.{Read}
 use Rattle.frame_round_trip.specs.Accepted.{reads}
 use Rattle.station.specs.Outcomes.AskCases as on-asking
 use Rattle.station.specs.Rules.Calls.{Call, start, stop, tick, hear, ask, after, heardVerdict}
@@ -26,9 +23,7 @@ use Rattle.station.specs.Rules.State.{isParticipating, fresh, isOff, stopped}
 use Rattle.station.specs.Outcomes.SwitchCases.{switched-to, start-cases, stop-cases}
 use Rattle.station.specs.Outcomes.TickCases as on-tick
 use Rattle.station.specs.Rules.Ticking.{Ticking}
-use Rattle.station.specs.declared.Phase.{Phase}
-use Rattle.station.specs.declared.Phase.the-variants.{Off, Listening, Startup, Joining, Participating}
-use Rattle.station.specs.declared.Station.{Station}
+use Rattle.station.specs.Types.{Fields, Code, Read, Phase, Off, Listening, Startup, Joining, Participating, Station}
 use Rattle.station.specs.declared.Switched.the-variants.{Done}
 use Rattle.frame_writing.specs.Writing.{noAreas}
 use Rattle.station.specs.Rules.Asking.{Asking}

@@ -7,20 +7,14 @@ use mathlib.Core.Bool.{Bool, true, false, cond, _&&_, _||_}
 use mathlib.Core.List.{List, [], _∷_}
 use lib.Dec.{eqb, ltb}
 use Rattle.frame.specs.Codes.{isToken, isCyclic}
-use Rattle.frame.specs.declared.Code.{Code}
 use Rattle.frame.specs.declared.Code.the-variants.{Token, Cyclic, Request, Trigger}
-use Rattle.frame.specs.declared.Fields.{Fields}
 use Rattle.members.specs.Members.{isListed}
 use Rattle.frame_reading.specs.Reading.{readOf}
-use Rattle.frame_reading.specs.declared.Read.{Read}
-use Rattle.frame_reading.specs.declared.Read.the-variants.{Frame, Refused}
 use Rattle.station.specs.Rules.Calls.{Call, start, stop, tick, hear, ask, Verdict, refusedBy, taken, verdict}
 use Rattle.station.specs.Panel.History.{Step, stepOf, history, stateAfter, participates, isTick}
 use Rattle.station.specs.Rules.State.{never}
 use Rattle.station.specs.Rules.Ticking.{watchEnds}
-use Rattle.station.specs.declared.Phase.{Phase}
-use Rattle.station.specs.declared.Phase.the-variants.{Off, Listening, Startup, Joining, Participating}
-use Rattle.station.specs.declared.Station.{Station}
+use Rattle.station.specs.Types.{Fields, Code, Read, Frame, Refused, Phase, Off, Listening, Startup, Joining, Participating, Station}
 
 abbrev pub isRequest : Code → Bool
 isRequest Token = false

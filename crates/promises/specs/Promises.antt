@@ -13,8 +13,6 @@ use Rattle.area.specs.Overlap.{partsOverlap, areasOverlap}
 use Rattle.area.specs.Within.{Inside, inside}
 use Rattle.area.specs.Words.{Holds, overlap-shared, shared-overlap}
 use Rattle.area.specs.declared.Area.{Area}
-use Rattle.area.specs.declared.Areas.{Areas}
-use Rattle.area.specs.declared.Part.{Part}
 use Rattle.block.specs.Blocks.{octetsOf, blocksOf, startOf, lengthOf}
 use Rattle.block.specs.Cut as cut
 use Rattle.boundary_core.specs.Crossing.{figureIn}
@@ -30,8 +28,6 @@ use Rattle.text_feeding.specs.Lines as lines
 use Rattle.frame.specs.Codes.{isToken, isCyclic}
 use Rattle.frame.specs.Octets.{octetAt}
 use Rattle.frame.specs.Refusals.{order}
-use Rattle.frame.specs.declared.Fields.{Fields}
-use Rattle.frame.specs.declared.Refusal.{Refusal}
 use Rattle.frame.specs.declared.Refusal.the-variants.{Taken}
 use Rattle.members.specs.Members.{entryOf, isListed, ringOf}
 use Rattle.misses.specs.MissHistory.{missesSaid, ends, isStop}
@@ -41,7 +37,6 @@ use Rattle.panel.specs.Texts.{shown-text}
 use Rattle.panel.specs.declared.Figure.the-variants.{Nothing}
 use Rattle.frame_reading.specs.Reading.{readOf, isStation, dataSize}
 use Rattle.frame_reading.specs.Reading as reading
-use Rattle.frame_reading.specs.declared.Read.the-variants.{Frame}
 use Rattle.refusals.specs.Applies.{applies, firstOf}
 use Rattle.refusals.specs.FirstApplies.{first-applies}
 use Rattle.replay_lines.specs.Output as replayed
@@ -82,12 +77,8 @@ use Rattle.station.specs.Rules.State.{never, isOff, isParticipating, stopped}
 use Rattle.station.specs.Memory.TurnWhole.{Lending, turn-whole}
 use Rattle.station.specs.Memory.TurnWritten.{Turned, turn-written}
 use Rattle.station.specs.declared.Asked.the-variants.{Octets}
-use Rattle.station.specs.declared.Data.the-variants.{Written}
 use Rattle.station.specs.declared.Heard.the-variants as heard
-use Rattle.station.specs.declared.Phase.{Phase}
-use Rattle.station.specs.declared.Phase.the-variants.{Off, Listening, Startup, Joining, Participating}
-use Rattle.station.specs.declared.Station.{Station}
-use Rattle.station.specs.declared.Token.{Token}
+use Rattle.station.specs.Types.{Areas, Part, Fields, Refusal, Frame, Phase, Off, Listening, Startup, Joining, Participating, Station, Written, Token}
 use Rattle.settle_views.specs.Views.{stationsOf}
 use Rattle.settle_views.specs.declared.Ring.{Ring}
 use Rattle.frame_writing.specs.Writing.{frameOf, fixed}

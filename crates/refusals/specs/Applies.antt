@@ -12,15 +12,13 @@ use Rattle.frame.specs.Codes.{codeOf, isKnown, isToken, isCyclic, carriesAreas}
 use Rattle.frame.specs.Octets.{wordAt, longAt}
 use Rattle.frame.specs.Positions.{TFL, TCD}
 use Rattle.frame.specs.Refusals.{order}
-use Rattle.frame.specs.declared.Fields.{Fields}
-use Rattle.frame.specs.declared.Refusal.{Refusal}
 use Rattle.frame.specs.declared.Refusal.the-variants.{Cut, Mark, Length, Code, Address, Taken, Area, Block, Stranger, NotDue, Buffer}
 use Rattle.frame_reading.specs.Reading.{marked, codeIn, fieldsOf, isStation}
 use Rattle.station.specs.Rules.Asking.{dueIn}
 use Rattle.station.specs.Rules.Calls.{Call, start, stop, tick, hear, ask, Verdict, refusedBy, taken}
 use Rattle.station.specs.Rules.Hearing.{knows}
 use Rattle.station.specs.Rules.State.{isOff, isParticipating}
-use Rattle.station.specs.declared.Station.{Station}
+use Rattle.station.specs.Types.{Fields, Refusal, Station}
 
 -- the fields as they stand in the octets heard. An octet that is not there reads 0. A code that is none of the four is none of 65000, 65001
 -- and 65002, which are all that 5, 7, 8 and 9 ask of a code.

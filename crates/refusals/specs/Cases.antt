@@ -4,7 +4,6 @@ use mathlib.Core.List.{List, [], _∷_, map}
 use Prim.Native.Nat.{ℕ}
 use lib.ListN.{replicate, set}
 use Rattle.area.specs.Areas.{memoryOctets}
-use Rattle.area.specs.declared.Areas.{Areas}
 use Rattle.frame.specs.Positions.{TFL, TCD, C-SZ1, TBN}
 use Rattle.frame.specs.Refusals.{numberOf}
 use Rattle.members.specs.Listing.{listing}
@@ -13,10 +12,7 @@ use Rattle.frame_reading.specs.Reading.{fieldsOf}
 use Rattle.frame_round_trip.specs.Sent.{blockFields, requestFields, triggerFields}
 use Rattle.station.specs.Rules.Calls.{Call, start, stop, tick, hear, ask, Verdict, refusedBy, taken, verdict, after}
 use Rattle.station.specs.Rules.State.{fresh, stopped, begun}
-use Rattle.station.specs.declared.Phase.the-variants.{Listening}
-use Rattle.station.specs.declared.Settings.{Settings}
-use Rattle.station.specs.declared.Station.{Station}
-use Rattle.units.specs.declared.Milliseconds.{Milliseconds}
+use Rattle.station.specs.Types.{Milliseconds, Areas, Settings, Listening, Station}
 use Rattle.frame_writing.specs.Writing.{noAreas, frameOf, headerOf, frontOf, backOf, fixedFor}
 use Rattle.refusals.specs.Applies.{firstApplying}
 

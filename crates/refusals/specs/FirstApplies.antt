@@ -6,17 +6,14 @@ use Prim.Native.Nat.{ℕ, zero, suc}
 use lib.Dec.{leb, ltb, eqb, leb·zero, leb·suc-suc, eqb·suc-zero}
 use lib.ListN.{length}
 use borrow.Author.Tests.{leb-true, leb-false, lt-ltb, le-ltb}
-use Rattle.frame.specs.declared.Refusal.{Refusal}
 use Rattle.frame.specs.declared.Refusal.the-variants as refusals
 use Rattle.frame_reading.specs.Reading as reading
-use Rattle.frame_reading.specs.declared.Read.{Read}
-use Rattle.frame_reading.specs.declared.Read.the-variants.{Frame, Refused}
 use Rattle.station.specs.Rules.Asking.{Asking}
 use Rattle.station.specs.Rules.Calls.{Call, start, stop, tick, hear, ask, Verdict, refusedBy, taken, verdict, switchedVerdict, heardVerdict, askedVerdict}
 use Rattle.station.specs.Rules.Hearing.{Hearing, lentRight, isTaken, isStranger, bodyHeard, headerHeard}
 use Rattle.station.specs.RefusedLeft.{accepted-taken}
 use Rattle.station.specs.Rules.Starting.{Switching, need}
-use Rattle.station.specs.declared.Station.{Station}
+use Rattle.station.specs.Types.{Refusal, Read, Frame, Refused, Station}
 use Rattle.refusals.specs.Applies.{firstApplying}
 
 -- a choice by a test that has parts is choices by its parts

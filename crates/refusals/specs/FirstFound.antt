@@ -5,9 +5,8 @@ use mathlib.Core.List.{List, [], _∷_, _++_, List·Memᴰ, List·Memᴰ·head, 
 use Prim.Native.Nat.{ℕ}
 use native.Mathlib.Omega.{arith}
 use Rattle.frame.specs.Refusals.{order}
-use Rattle.frame.specs.declared.Refusal.{Refusal}
 use Rattle.station.specs.Rules.Calls.{Call, refusedBy, taken, verdict}
-use Rattle.station.specs.declared.Station.{Station}
+use Rattle.station.specs.Types.{Refusal, Station}
 use Rattle.refusals.specs.Applies.{applies, firstOf}
 use Rattle.refusals.specs.FirstApplies.{first-applies}
 

@@ -6,12 +6,9 @@ use Prim.Native.Nat.{ℕ}
 use lib.ListN.{replicate}
 use Rattle.area.specs.Areas.{memoryOctets}
 use Rattle.frame.specs.Refusals.{order}
-use Rattle.frame.specs.declared.Fields.{Fields}
-use Rattle.frame.specs.declared.Refusal.{Refusal}
 use Rattle.frame.specs.declared.Refusal.the-variants as refusals
 use Rattle.frame_reading.specs.Reading.{need, andThen, readOf}
-use Rattle.frame_reading.specs.declared.Read.{Read}
-use Rattle.frame_reading.specs.declared.Read.the-variants.{Frame, Refused}
+use Rattle.station.specs.Types.{Fields, Refusal, Read, Frame, Refused}
 use Rattle.station.specs.Rules.Calls.{hear, Verdict, refusedBy, taken}
 use Rattle.station.specs.Rules.State.{never}
 use Rattle.refusals.specs.Applies.{frameIn, applies, firstOf}

@@ -2,8 +2,7 @@
 use Prim.Native.Nat.{_≤_}
 use native.Mathlib.Omega.{arith}
 use lib.ListN.{length}
-use Rattle.station.specs.declared.Data.{Data}
-use Rattle.station.specs.declared.Data.the-variants.{Kept, Written, Dropped}
+use Rattle.station.specs.Types.{Data, Kept, Written, Dropped}
 use Rattle.replay_reply_outcome.specs.Outcome.{dataWord}
 
 pub data-length : (outcome : Data) → length (dataWord outcome) ≤ 7

@@ -4,9 +4,7 @@ use mathlib.Core.List.{List, [], _∷_, _++_}
 use Prim.Native.Nat.{ℕ, suc, _*_, _≤_}
 use native.Mathlib.Omega.{arith}
 use lib.ListN.{length, length-append}
-use Rattle.members.specs.declared.Entry.{Entry}
-use Rattle.station.specs.declared.Phase.{Phase}
-use Rattle.station.specs.declared.Phase.the-variants.{Off, Listening, Startup, Joining, Participating}
+use Rattle.station.specs.Types.{Entry, Phase, Off, Listening, Startup, Joining, Participating}
 use Rattle.text.specs.Decimal.{decimalOf}
 use Rattle.text.specs.Digits.{at-most}
 use Rattle.text.specs.Lines.{space, comma}

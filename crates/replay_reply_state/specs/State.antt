@@ -2,11 +2,8 @@
 use Prim.Native.Nat.{ℕ, suc}
 use mathlib.Core.Bool.{cond}
 use mathlib.Core.List.{List, [], _∷_, _++_}
-use Rattle.members.specs.declared.Entry.{Entry}
 use Rattle.replay_reply_parts.specs.Lines.{ended}
-use Rattle.station.specs.declared.Phase.{Phase}
-use Rattle.station.specs.declared.Phase.the-variants.{Off, Listening, Startup, Joining, Participating}
-use Rattle.station.specs.declared.Station.{Station}
+use Rattle.station.specs.Types.{Entry, Phase, Off, Listening, Startup, Joining, Participating, Station}
 use Rattle.text.specs.Decimal.{decimalOf}
 use Rattle.text.specs.Lines.{space, comma}
 

@@ -1,7 +1,7 @@
 // Drives one station from text: one command a line on standard input, one answer a line on standard output. What a line means, what it does
 // and what is answered is decided by the library replay_lines; here the input is only handed to it, part by part.
-use replay_input::Line;
 use libc::STDOUT_FILENO;
+use replay_input::Line;
 use replay_lines::Going;
 use station::Station;
 ghost use mathlib.Core.Path.{_≡_};

@@ -9,7 +9,6 @@ use lib.Dec.{ltb}
 use lib.ListN.{getD, length, replicate, take, drop}
 use borrow.Author.Tests.{ltb-true, le-leb}
 use Rattle.block.specs.Blocks.{startOf}
-use Rattle.frame.specs.declared.Fields.{Fields}
 use Rattle.frame.specs.declared.Refusal.the-variants as refusals
 use Rattle.frame_reading.specs.Reading.{fieldsOf}
 use Rattle.frame_round_trip.specs.Sent.{blockFields}
@@ -20,10 +19,7 @@ use Rattle.station.specs.Rules.Calls.{Call, start, tick, hear, ask, after, take
 use Rattle.station.specs.Panel.History.{stateAfter}
 use Rattle.station.specs.States.Reachable.{Reachable, unstarted, called, TypedSettings}
 use Rattle.station.specs.Rules.State.{never}
-use Rattle.station.specs.declared.Phase.the-variants.{Participating}
-use Rattle.station.specs.declared.Settings.{Settings}
-use Rattle.station.specs.declared.Station.{Station}
-use Rattle.units.specs.declared.Milliseconds.{Milliseconds}
+use Rattle.station.specs.Types.{Milliseconds, Fields, Settings, Participating, Station}
 use Rattle.frame_writing.specs.Writing.{noAreas, frameOf, outputOf, headerOf, frontOf, backOf, fixedFor}
 use Rattle.ring.specs.Demand.{LastCall, sent, heard}
 

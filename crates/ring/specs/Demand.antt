@@ -5,18 +5,15 @@ use mathlib.Core.List.{List, [], _++_}
 use Prim.Native.Nat.{ℕ, _+_, _-_, _*_, _≤_}
 use lib.ListN.{length, take}
 use Rattle.frame.specs.Codes.{isToken}
-use Rattle.frame.specs.declared.Fields.{Fields}
 use Rattle.members.specs.Members.{ringOf}
 use Rattle.frame_reading.specs.Reading.{readOf}
-use Rattle.frame_reading.specs.declared.Read.the-variants.{Frame}
 use Rattle.settling.specs.Ring.{_∈_, Stations as Ascending}
 use Rattle.settling.specs.Steps.{afterAll, EachFinds}
 use Rattle.station.specs.Rules.Asking.{askOf}
 use Rattle.station.specs.Rules.Calls.{after, hear, ask, taken, verdict}
 use Rattle.station.specs.States.Reachable.{Reachable, Typed}
 use Rattle.station.specs.declared.Asked.the-variants.{Octets}
-use Rattle.station.specs.declared.Phase.the-variants.{Participating}
-use Rattle.station.specs.declared.Station.{Station}
+use Rattle.station.specs.Types.{Fields, Frame, Participating, Station}
 use Rattle.ring.specs.Counts.{passes, silences, given, Does}
 use Rattle.ring.specs.Events.{Stations, Event, afterEvent, AllName}
 

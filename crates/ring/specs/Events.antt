@@ -7,21 +7,16 @@ use lib.Dec.{eqb}
 use lib.ListN.{take}
 use Rattle.frame.specs.Codes.{isCyclic}
 use Rattle.frame.specs.declared.Code.the-variants.{Request}
-use Rattle.frame.specs.declared.Fields.{Fields}
-use Rattle.frame.specs.declared.Refusal.{Refusal}
 use Rattle.misses.specs.MissHistory.{ThirdRunning}
 use Rattle.frame_reading.specs.Reading.{readOf}
-use Rattle.frame_reading.specs.declared.Read.the-variants.{Frame}
 use Rattle.settling.specs.Ring.{_∈_, Agreed}
 use Rattle.station.specs.Rules.Asking as asking
 use Rattle.station.specs.Rules.Calls.{Call, start, hear, after, refusedBy, verdict}
 use Rattle.station.specs.Rules.Hearing as hearing
 use Rattle.station.specs.Rules.State.{isParticipating, holds}
 use Rattle.station.specs.Rules.Ticking.{tickOf, watchEnds}
-use Rattle.station.specs.declared.Asked.{Asked}
 use Rattle.station.specs.declared.Asked.the-variants as answers
-use Rattle.station.specs.declared.Settings.{Settings}
-use Rattle.station.specs.declared.Station.{Station}
+use Rattle.station.specs.Types.{Fields, Refusal, Frame, Settings, Station, Asked}
 
 -- the stations of a ring, by their numbers
 abbrev pub Stations : Type 0

@@ -7,14 +7,12 @@ use native.Mathlib.Decide.{ℕ-discrete}
 use lib.Dec.{eqb}
 use borrow.Author.Tests.{eq-eqb}
 use Rattle.frame.specs.Codes.{isCyclic}
-use Rattle.frame.specs.declared.Fields.{Fields}
 use Rattle.frame_reading.specs.Reading.{readOf, dataOf}
-use Rattle.frame_reading.specs.declared.Read.the-variants.{Frame}
 use Rattle.settling.specs.Ring.{_∈_}
 use Rattle.station.specs.Frames.FrameAccepted as heard
 use Rattle.station.specs.Rules.Data.{gathered}
 use Rattle.station.specs.Rules.Hearing.{knows, lentRight, participantHeard, hearOf}
-use Rattle.station.specs.declared.Station.{Station}
+use Rattle.station.specs.Types.{Fields, Frame, Station}
 use Rattle.ring.specs.Member.{InRing, listed}
 
 module _ {numbers : List ℕ} {number : ℕ} {station : Station} (in-ring : InRing numbers number station) where

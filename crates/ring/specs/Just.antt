@@ -5,21 +5,15 @@ use mathlib.Core.List.{List}
 use Prim.Native.Nat.{ℕ}
 use native.Mathlib.Omega.{arith}
 use Rattle.frame.specs.Codes.{isToken, isCyclic}
-use Rattle.frame.specs.declared.Code.{Code}
 use Rattle.frame.specs.declared.Code.the-variants.{Token, Cyclic, Request, Trigger}
-use Rattle.frame.specs.declared.Fields.{Fields}
-use Rattle.frame.specs.declared.Refusal.{Refusal}
 use Rattle.frame_reading.specs.Reading.{readOf}
-use Rattle.frame_reading.specs.declared.Read.the-variants.{Frame}
 use Rattle.frame_round_trip.specs.Accepted.{reads}
 use Rattle.station.specs.Outcomes.AskCases as on-asking
 use Rattle.station.specs.Rules.Calls.{taken, refusedBy, heardVerdict}
 use Rattle.station.specs.Outcomes.HearCases as on-hearing
 use Rattle.station.specs.Rules.State.{isParticipating}
 use Rattle.station.specs.declared.Asked.the-variants.{Octets}
-use Rattle.station.specs.declared.Phase.{Phase}
-use Rattle.station.specs.declared.Phase.the-variants.{Participating}
-use Rattle.station.specs.declared.Station.{Station}
+use Rattle.station.specs.Types.{Fields, Code, Refusal, Frame, Phase, Participating, Station}
 use Rattle.station.specs.Rules.Asking.{Asking}
 use Rattle.station.specs.Rules.Hearing.{Hearing}
 use Rattle.ring.specs.Demand.{LastCall, sent, heard}

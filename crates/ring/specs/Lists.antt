@@ -6,8 +6,7 @@ use mathlib.Core.Logic.{_⊎_, inl, inr}
 use Prim.Native.Nat.{ℕ, zero, suc}
 use lib.ListN.{getD, set}
 use Rattle.members.specs.Members.{nobody, isListed, withEntry, numbersFrom, withOurs, ringOf}
-use Rattle.members.specs.declared.Entry.{Entry}
-use Rattle.members.specs.declared.Members.{Members}
+use Rattle.station.specs.Types.{Entry, Members}
 use Rattle.settling.specs.Ring.{_∈_}
 use Rattle.station.specs.States.RingKept.{in-ring}
 

@@ -9,14 +9,10 @@ use borrow.Author.Tests.{leb-false}
 use Rattle.area.specs.Areas.{inRange}
 use Rattle.block.specs.Blocks.{blocksOf}
 use Rattle.members.specs.Members.{entryOf, isListed, withEntry, ringOf, nextAfter, cleared, missesSet, struck, missed, strikes}
-use Rattle.members.specs.declared.Members.{Members}
-use Rattle.panel.specs.declared.Panel.{Panel}
 use Rattle.settling.specs.Ring.{_∈_, next}
 use Rattle.station.specs.Rules.Asking.{nextBlock, isLast, nextStation, blockSent}
 use Rattle.station.specs.Rules.Token.{restarted}
-use Rattle.station.specs.declared.Gathering.{Gathering}
-use Rattle.station.specs.declared.Phase.the-variants.{Participating}
-use Rattle.station.specs.declared.Station.{Station}
+use Rattle.station.specs.Types.{Members, Panel, Participating, Gathering, Station}
 use Rattle.ring.specs.Lists.{ring-kept, other-listed}
 
 -- a station of the ring, whose number is `number`

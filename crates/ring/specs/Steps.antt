@@ -11,11 +11,9 @@ use borrow.Author.Tests.{eq-eqb, ne-eqb, le-leb, lt-leb, lt-ltb}
 use Rattle.block.specs.Blocks.{blocksOf}
 use Rattle.frame.specs.Codes.{isToken, isCyclic}
 use Rattle.frame.specs.declared.Code.the-variants.{Token, Cyclic}
-use Rattle.frame.specs.declared.Fields.{Fields}
 use Rattle.frame.specs.declared.Refusal.the-variants as refusals
 use Rattle.misses.specs.MissHistory.{Brought}
 use Rattle.frame_reading.specs.Reading.{isStation, readOf}
-use Rattle.frame_reading.specs.declared.Read.the-variants.{Frame}
 use Rattle.settling.specs.Ring.{_∈_, next}
 use Rattle.frame_writing.specs.Writing.{wholeLength}
 use Rattle.station.specs.Frames.Asked.{CanSend, asked-back}
@@ -23,7 +21,7 @@ use Rattle.station.specs.Rules.Asking as asking
 use Rattle.station.specs.Rules.State.{holds}
 use Rattle.station.specs.Rules.Token.{viewHeard, viewAfter}
 use Rattle.station.specs.declared.Asked.the-variants as answers
-use Rattle.station.specs.declared.Station.{Station}
+use Rattle.station.specs.Types.{Fields, Frame, Station}
 use Rattle.ring.specs.Events.{Stations}
 use Rattle.ring.specs.Member.{InRing, next-same}
 

@@ -8,11 +8,9 @@ use lib.Dec.{eqb}
 use borrow.Author.Tests.{eq-eqb, ne-eqb, eqb-false}
 use Rattle.frame.specs.Codes.{isCyclic}
 use Rattle.frame.specs.declared.Code.the-variants.{Request}
-use Rattle.frame.specs.declared.Fields.{Fields}
 use Rattle.misses.specs.CoverThird.{brought-more}
 use Rattle.misses.specs.MissHistory.{Brought}
 use Rattle.frame_reading.specs.Reading.{readOf}
-use Rattle.frame_reading.specs.declared.Read.the-variants.{Frame}
 use Rattle.frame_round_trip.specs.Accepted.{reads}
 use Rattle.settling.specs.Ring.{_∈_}
 use Rattle.station.specs.Rules.Calls.{Call, start, after, refusedBy, verdict}
@@ -20,7 +18,7 @@ use Rattle.station.specs.Outcomes.HearCases as on-hearing
 use Rattle.station.specs.Rules.Hearing.{Hearing, requested}
 use Rattle.station.specs.RefusedLeft.{Spared, same, turnedOff, refused-left}
 use Rattle.station.specs.Rules.State.{isParticipating}
-use Rattle.station.specs.declared.Station.{Station}
+use Rattle.station.specs.Types.{Fields, Frame, Station}
 use Rattle.ring.specs.Counts.{Does, nothing}
 use Rattle.ring.specs.Events.{Stations, stray, afterEvent, Stray, refused, starts, harmless, CanCome}
 use Rattle.ring.specs.Lists.{ring-kept}

@@ -1,8 +1,8 @@
 // Reading the input of `settle`: the ring, or the number of the first bad line.
+use settle_views::Ring;
 use text_reading::Value;
 use text_reading::decimal_in;
 use text_reading::place_of;
-use settle_views::Ring;
 ghost use mathlib.Core.Path.{_≡_};
 ghost use Prim.Native.Nat.{_<_};
 ghost use lib.ListN.{length};

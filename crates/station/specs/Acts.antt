@@ -7,12 +7,10 @@ use Prim.Native.Nat.{ℕ, zero, suc}
 use native.Mathlib.Decide.{ℕ-discrete}
 use lib.ListN.{getD, replicate}
 use borrow.Author.Tests.{eq-eqb, ne-eqb}
-use Rattle.area.specs.declared.Areas.{Areas}
 use Rattle.frame.specs.Positions.{DNA, CBN}
 use Rattle.frame.specs.declared.Refusal.the-variants as refusals
 use Rattle.members.specs.Listing.{listing}
 use Rattle.members.specs.Members.{noMembers, entryOf, isListed, missesSet, struck, withEntry}
-use Rattle.members.specs.declared.Members.{Members}
 use Rattle.frame_reading.specs.Reading.{fieldsOf}
 use Rattle.frame_round_trip.specs.Sent.{blockFields}
 use Rattle.settling.specs.Ring.{next, viewAfterPass}
@@ -21,12 +19,9 @@ use Rattle.station.specs.Rules.Hearing.{Hearing, hearOf}
 use Rattle.station.specs.Rules.State.{begun, fresh, nothing, stopped, relisted}
 use Rattle.station.specs.Rules.Ticking.{tickOf}
 use Rattle.station.specs.Rules.Token.{viewAfter}
-use Rattle.station.specs.declared.Data.the-variants.{Kept, Written}
 use Rattle.station.specs.declared.Heard.the-variants as answers
-use Rattle.station.specs.declared.Phase.the-variants.{Startup, Listening}
-use Rattle.station.specs.declared.Station.{Station}
 use Rattle.station.specs.declared.Token.the-variants as tokens
-use Rattle.units.specs.declared.Milliseconds.{Milliseconds}
+use Rattle.station.specs.Types.{Milliseconds, Areas, Members, Listening, Startup, Station, Kept, Written}
 use Rattle.frame_writing.specs.Writing.{noAreas, frameOf, headerOf, frontOf, backOf, fixedFor}
 
 -- A rival is dropped by its larger destination, whatever its source: "9, 2 to 5: 5", "5, 7 to 9: 5".

@@ -1,3 +1,5 @@
+-- The types that all of this speaks of.
+pub mod Types
 -- The rules of the paper.
 pub mod Rules
 -- The outcomes of each call, which the theorems go by.

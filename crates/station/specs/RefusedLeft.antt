@@ -5,8 +5,6 @@ use mathlib.Core.List.{List, [], _∷_}
 use Prim.Native.Nat.{ℕ}
 use native.Mathlib.Omega.{arith}
 use Rattle.frame.specs.Codes.{isCyclic}
-use Rattle.frame.specs.declared.Fields.{Fields}
-use Rattle.frame.specs.declared.Refusal.{Refusal}
 use Rattle.frame.specs.declared.Refusal.the-variants as refusals
 use Rattle.station.specs.Outcomes.AskCases as on-asking
 use Rattle.station.specs.Rules.Calls.{Call, start, stop, tick, hear, ask, lent, lentAfter, after, refusedBy, taken, verdict, switchedVerdict, heardVerdict, askedVerdict}
@@ -15,10 +13,8 @@ use Rattle.station.specs.Rules.Hearing.{Hearing, accepted}
 use Rattle.station.specs.Rules.Starting.{Switching}
 use Rattle.station.specs.Rules.State.{isOff, isParticipating, stopped}
 use Rattle.station.specs.Outcomes.SwitchCases as on-switching
-use Rattle.station.specs.declared.Data.the-variants.{Dropped}
-use Rattle.station.specs.declared.Heard.{Heard}
 use Rattle.station.specs.declared.Heard.the-variants as heard
-use Rattle.station.specs.declared.Station.{Station}
+use Rattle.station.specs.Types.{Fields, Refusal, Station, Dropped, Heard}
 use Rattle.station.specs.declared.Token.the-variants as tokens
 use Rattle.station.specs.Rules.Asking.{Asking}
 

@@ -6,8 +6,7 @@ use native.Mathlib.Omega.{arith}
 use lib.ListN.{length}
 use borrow.Author.Needs.{needs}
 use borrow.Author.Tests.{le-leb}
-use Rattle.frame.specs.declared.Fields.{Fields}
-use Rattle.frame.specs.declared.Refusal.{Refusal}
+use Rattle.station.specs.Types.{Fields, Refusal}
 use Rattle.frame_reading.specs.Reading.{dataSize}
 use Rattle.frame_writing.specs.Writing.{wholeLength, writtenOf}
 use Rattle.frame_writing.specs.declared.Written.the-variants.{Octets, Refused}

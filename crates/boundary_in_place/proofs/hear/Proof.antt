@@ -6,13 +6,12 @@ use native.Mathlib.Omega.{arith}
 use lib.Dec.{eqb}
 use lib.ListN.{getD}
 use borrow.Author.Needs.{needs}
-use Rattle.area.specs.declared.Areas.{Areas}
 use Rattle.frame.specs.Codes.{isToken}
 use Rattle.hearing_token.specs.Parts.{outcomeBy}
 use Rattle.boundary_lists.specs.Laws.{listed-in, cleared-in}
 use Rattle.boundary_lists.specs.Lists.{membersIn}
 use Rattle.members.specs.Members.{entryOf, isListed, cleared}
-use Rattle.members.specs.declared.Entry.{Entry}
+use Rattle.station.specs.Types.{Areas, Entry}
 use Rattle.frame_reading.specs.Reading.{dataOf}
 use Rattle.station.specs.Rules.Data.{gatheredFrom}
 use Rattle.station.specs.Rules.Hearing.{Hearing}

@@ -1,8 +1,7 @@
 -- `hearing_entering::startup_hears` meets its contract.
 use mathlib.Core.Path.{ap, sym, _∙_}
-use Rattle.frame.specs.declared.Code.{Code}
 use Rattle.station.specs.Rules.Hearing.{enters}
-use Rattle.station.specs.declared.Phase.the-variants.{Startup}
+use Rattle.station.specs.Types.{Code, Startup}
 use borrow.Author.Needs.{needs}
 use Rattle.hearing_entering.proofs.startup_hears.Statement.{statement}
 use Rattle.hearing_entering.proofs.startup_hears.Tie as tie

@@ -7,13 +7,11 @@ use native.Mathlib.Omega.{arith}
 use lib.Dec.{eqb}
 use borrow.Author.Tests.{eqb-true}
 use Rattle.area.specs.Areas.{inRange}
-use Rattle.area.specs.declared.Areas.{Areas}
 use Rattle.copying.specs.Pasted.{pasted}
-use Rattle.frame.specs.declared.Fields.{Fields}
 use Rattle.laws.specs.Tests.{first, second}
 use Rattle.station.specs.Rules.Data.{Gathered, sameAreas, isNext, turnWritten, storing}
 use Rattle.station.specs.Rules.State.{nothing}
-use Rattle.station.specs.declared.Data.the-variants.{Kept, Written}
+use Rattle.station.specs.Types.{Areas, Fields, Kept, Written}
 use borrow.Author.Needs.{needs}
 use Rattle.hearing_gathering.proofs.gather.Statement.{statement}
 use Rattle.hearing_gathering.proofs.gather.Tie as tie

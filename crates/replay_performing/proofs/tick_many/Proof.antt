@@ -4,8 +4,7 @@ use Prim.Native.Nat.{ℕ, suc, _-_}
 use native.Mathlib.Omega.{arith}
 use Rattle.replay_performing.specs.Replaying.{tickedOn}
 use Rattle.station.specs.Rules.Ticking.{Ticking}
-use Rattle.station.specs.declared.Station.{Station}
-use Rattle.station.specs.declared.Ticked.{Ticked}
+use Rattle.station.specs.Types.{Station, Ticked}
 use Rattle.replay_performing.proofs.tick_many.Statement.{statement}
 use Rattle.replay_performing.proofs.tick_many.Tie as tie
 

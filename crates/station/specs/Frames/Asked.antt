@@ -10,15 +10,12 @@ use lib.Seq.{take-at}
 use borrow.Author.Tests.{le-leb, eqb-true, leb-true}
 use Rattle.area.specs.Areas.{inRange, memoryOctets, spanOf}
 use Rattle.area.specs.declared.Area.the-variants.{One, Two}
-use Rattle.area.specs.declared.Areas.{Areas}
 use Rattle.block.specs.Blocks.{blocksOf, lengthOf, startOf, octetsOf}
 use Rattle.block.specs.Cut.{at-most, within, fits}
 use Rattle.copying.specs.Laws.{length-pasted}
 use Rattle.copying.specs.Pasted.{pasted}
-use Rattle.frame.specs.declared.Fields.{Fields}
 use Rattle.laws.specs.Tests.{first, second}
 use Rattle.frame_reading.specs.Reading.{isStation, readOf, dataSize}
-use Rattle.frame_reading.specs.declared.Read.the-variants.{Frame}
 use Rattle.frame_round_trip.specs.SentBack.{trigger-back, request-back, block-back, block-size}
 use Rattle.frame_writing.specs.Lengths.{length-frame}
 use Rattle.frame_writing.specs.Writing.{frameOf, outputOf, wholeLength}
@@ -26,7 +23,7 @@ use Rattle.station.specs.Outcomes.AskCases.{SendCases, triggers, request
 use Rattle.station.specs.Rules.Asking.{Asking, dueFields, nextBlock, nextStation, askOf}
 use Rattle.station.specs.declared.Asked.the-variants.{Octets}
 use Rattle.station.specs.Rules.Data.{turnOf}
-use Rattle.station.specs.declared.Station.{Station}
+use Rattle.station.specs.Types.{Areas, Fields, Frame, Station}
 
 -- what is asked of a station that sends: numbers of stations, areas in range, and a place inside its turn
 pub record CanSend (station : Station) : Type 0 where

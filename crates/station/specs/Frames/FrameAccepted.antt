@@ -9,12 +9,9 @@ use lib.ListN.{length, take}
 use borrow.Author.Tests.{ne-eqb, lt-ltb}
 use Rattle.block.specs.Blocks.{blocksOf}
 use Rattle.frame.specs.Codes.{isToken, isCyclic}
-use Rattle.frame.specs.declared.Code.{Code}
 use Rattle.frame.specs.declared.Code.the-variants.{Token, Cyclic, Request, Trigger}
-use Rattle.frame.specs.declared.Fields.{Fields}
 use Rattle.laws.specs.Tests.{both}
 use Rattle.frame_reading.specs.Reading.{readOf, readHeaderOf, readBodyOf, dataOf}
-use Rattle.frame_reading.specs.declared.Read.the-variants.{Frame}
 use Rattle.frame_round_trip.specs.Accepted.{Accepted, accepted as passed}
 use Rattle.station.specs.Outcomes.AskCases.{triggers, requests, begins, passes, AskCases, refuses, sends, ask-cases}
 use Rattle.station.specs.Frames.Asked.{CanSend, asked-back}
@@ -28,8 +25,7 @@ use Rattle.station.specs.States.Reachable.{Reachable}
 use Rattle.station.specs.RefusedLeft.{accepted-taken}
 use Rattle.station.specs.Rules.State.{isParticipating, isOff, holds}
 use Rattle.station.specs.declared.Asked.the-variants.{Octets}
-use Rattle.station.specs.declared.Phase.the-variants.{Participating}
-use Rattle.station.specs.declared.Station.{Station}
+use Rattle.station.specs.Types.{Fields, Code, Frame, Participating, Station}
 
 -- octets that are read as fields pass both parts of the reading
 pub header-read : {s : List ℕ} {fields : Fields} → Accepted s fields → readHeaderOf s ≡ Frame fields

@@ -9,14 +9,11 @@ use lib.ListN.{length, take}
 use borrow.Author.Tests.{eqb-true}
 use Rattle.block.specs.Blocks.{startOf}
 use Rattle.frame.specs.Codes.{isCyclic}
-use Rattle.frame.specs.declared.Fields.{Fields}
 use Rattle.frame_reading.specs.Reading as reading
 use Rattle.frame_reading.specs.Reading.{readHeaderOf, readBodyOf}
-use Rattle.frame_reading.specs.declared.Read.the-variants.{Frame}
 use Rattle.station.specs.Rules.Data.{without}
 use Rattle.station.specs.Rules.State.{nothing}
-use Rattle.station.specs.declared.Gathering.{Gathering}
-use Rattle.station.specs.declared.Heard.{Heard}
+use Rattle.station.specs.Types.{Fields, Frame, Gathering, Heard}
 use Rattle.station.specs.declared.Heard.the-variants as answers
 
 -- a list of the cyclic frames that were accepted, the latest first, after one more hearing

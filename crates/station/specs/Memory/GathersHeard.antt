@@ -10,7 +10,6 @@ use borrow.Author.Tests.{eqb-false}
 use Rattle.block.specs.Blocks.{octetsOf, blocksOf, startOf, lengthOf}
 use Rattle.block.specs.Cut as cut
 use Rattle.copying.specs.Pasted.{pasted}
-use Rattle.frame.specs.declared.Fields.{Fields}
 use Rattle.members.specs.Members.{entryOf}
 use Rattle.frame_reading.specs.Reading as reading
 use Rattle.frame_round_trip.specs.Shown.{block-is}
@@ -23,7 +22,7 @@ use Rattle.station.specs.States.Reachable.{Sound}
 use Rattle.station.specs.Rules.State.{isParticipating}
 use Rattle.station.specs.Memory.TurnJoined.{data-long, taken-through}
 use Rattle.station.specs.Memory.TurnWritten.{assembly-long}
-use Rattle.station.specs.declared.Station.{Station}
+use Rattle.station.specs.Types.{Fields, Station}
 
 module _ {heard : List (List ℕ)} (station : Station) (octets memory assembly : List ℕ) (ok : Sound station)
     (before : Gathers heard (station .gathering) assembly) where

@@ -8,23 +8,17 @@ use lib.ListN.{length}
 use Rattle.block.specs.Blocks as blocks
 use Rattle.copying.specs.Pasted.{pasted}
 use Rattle.frame.specs.Codes.{isToken, isCyclic}
-use Rattle.frame.specs.declared.Fields.{Fields}
 use Rattle.members.specs.Members.{entryOf, isListed}
 use Rattle.frame_reading.specs.Reading as reading
 use Rattle.frame_reading.specs.Reading.{readHeaderOf, readBodyOf}
-use Rattle.frame_reading.specs.declared.Read.the-variants.{Frame}
 use Rattle.station.specs.Rules.Answers.{dataOf}
 use Rattle.station.specs.Rules.Data.{turnWritten, sameAreas, isNext}
 use Rattle.station.specs.Outcomes.HearCases.{writes, keeps, drops, EnterCases, off, begins, joins, passes, reads, lists, ignores, HearCases, refuses, turnsOff, gathers, heeds, hear-cases}
 use Rattle.station.specs.Rules.Hearing.{Hearing, lentRight, hearOf}
 use Rattle.station.specs.Rules.State.{isParticipating}
 use Rattle.station.specs.Rules.Token.{viewHeard, takes, outcomeOf}
-use Rattle.station.specs.declared.Data.{Data}
-use Rattle.station.specs.declared.Data.the-variants.{Kept, Written, Dropped}
-use Rattle.station.specs.declared.Heard.{Heard}
 use Rattle.station.specs.declared.Heard.the-variants as heard
-use Rattle.station.specs.declared.Station.{Station}
-use Rattle.station.specs.declared.Token.{Token}
+use Rattle.station.specs.Types.{Fields, Frame, Station, Data, Kept, Written, Dropped, Token, Heard}
 use Rattle.station.specs.declared.Token.the-variants as tokens
 
 -- the answer is that of a cyclic frame whose data outcome is "written"

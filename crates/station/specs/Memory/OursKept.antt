@@ -12,9 +12,7 @@ use Rattle.laws.specs.Tests.{first, neither-first, neither-second}
 use Rattle.area.specs.Areas.{inArea, inRange, spanOf, memoryOctets}
 use Rattle.area.specs.Overlap.{partsOverlap, areasOverlap}
 use Rattle.area.specs.Words.{shared-overlap}
-use Rattle.area.specs.declared.Areas.{Areas}
 use Rattle.area.specs.declared.Area.the-variants.{One, Two}
-use Rattle.area.specs.declared.Part.{Part}
 use Rattle.members.specs.Members.{entryOf}
 use Rattle.station.specs.States.Apart.{apart}
 use Rattle.station.specs.Outcomes.HearCases.{writes, keeps, drops, HearCases, refuses, turnsOff, gathers, heeds, hear-cases}
@@ -22,7 +20,7 @@ use Rattle.station.specs.Rules.Hearing.{lentRight, hearOf, Hearing}
 use Rattle.station.specs.States.Sound.{sound}
 use Rattle.station.specs.Memory.Places.{In, written-outside}
 use Rattle.station.specs.States.Reachable.{Reachable, Sound}
-use Rattle.station.specs.declared.Station.{Station}
+use Rattle.station.specs.Types.{Areas, Part, Station}
 
 -- the place belongs to one of the two areas
 pub data InAreas (areas : Areas) (at : ℕ) : Type 0 where

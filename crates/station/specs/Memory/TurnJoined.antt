@@ -9,12 +9,10 @@ use lib.ListN.{length, take, drop, length-append, length-take, length-drop}
 use lib.Seq.{take-at}
 use borrow.Author.Tests.{eqb-true}
 use Rattle.area.specs.Areas.{memoryOctets}
-use Rattle.area.specs.declared.Areas.{Areas}
 use Rattle.block.specs.Blocks.{octetsOf, blocksOf, startOf}
 use Rattle.block.specs.Cut as cut
 use Rattle.copying.specs.Pasted.{pasted}
 use Rattle.frame.specs.Codes.{isCyclic}
-use Rattle.frame.specs.declared.Fields.{Fields}
 use Rattle.members.specs.Members.{entryOf}
 use Rattle.frame_reading.specs.Reading as reading
 use Rattle.frame_round_trip.specs.Shown.{Blocked, block-is}
@@ -27,10 +25,8 @@ use Rattle.station.specs.States.KeepsEntering.{same-octets}
 use Rattle.station.specs.Memory.MemorySame.{Whole, memory-written}
 use Rattle.station.specs.States.Reachable.{Reachable}
 use Rattle.station.specs.Memory.TurnWritten.{assembly-long}
-use Rattle.station.specs.declared.Data.the-variants.{Written}
 use Rattle.station.specs.declared.Heard.the-variants as heard
-use Rattle.station.specs.declared.Station.{Station}
-use Rattle.station.specs.declared.Token.{Token}
+use Rattle.station.specs.Types.{Areas, Fields, Station, Written, Token}
 
 -- the data of a cyclic frame
 pub data-long : (octets : List ℕ) (frame : Fields) → isCyclic (frame .code) ≡ true → 64 ≤ length octets - frame .size

@@ -9,7 +9,6 @@ use lib.Dec.{eqb}
 use lib.ListN.{getD, take}
 use borrow.Author.Tests.{ne-eqb}
 use Rattle.block.specs.Blocks.{octetsOf}
-use Rattle.frame.specs.declared.Fields.{Fields}
 use Rattle.members.specs.Members.{entryOf, isListed, strikes}
 use Rattle.station.specs.Rules.Answers.{dataOf}
 use Rattle.station.specs.States.KeepsStarting.{station-from}
@@ -28,10 +27,8 @@ use Rattle.station.specs.Outcomes.SwitchCases.{SwitchCases, switched-to,
 use Rattle.station.specs.Outcomes.TickCases as on-tick
 use Rattle.station.specs.Rules.Ticking.{Ticking}
 use Rattle.station.specs.Memory.TurnJoined.{turn-joined}
-use Rattle.station.specs.declared.Data.the-variants.{Written}
 use Rattle.station.specs.declared.Heard.the-variants as answers
-use Rattle.station.specs.declared.Station.{Station}
-use Rattle.station.specs.declared.Token.{Token}
+use Rattle.station.specs.Types.{Fields, Station, Written, Token}
 use Rattle.station.specs.Rules.Asking.{Asking}
 
 module _ {heard : List (List ℕ)} (station : Station) (assembly : List ℕ) (g : Gathers heard (station .gathering) assembly) where

@@ -11,10 +11,8 @@ use borrow.Author.Tests.{eqb-true}
 use Rattle.laws.specs.Tests.{second}
 use Rattle.area.specs.Areas.{spanOf, memoryOctets}
 use Rattle.area.specs.declared.Area.the-variants.{One, Two}
-use Rattle.area.specs.declared.Areas.{Areas}
 use Rattle.block.specs.Blocks.{startOf}
 use Rattle.copying.specs.Pasted.{pasted}
-use Rattle.frame.specs.declared.Fields.{Fields}
 use Rattle.members.specs.Members.{entryOf}
 use Rattle.frame_reading.specs.Reading as reading
 use Rattle.station.specs.Rules.Answers.{dataOf}
@@ -24,10 +22,8 @@ use Rattle.station.specs.Memory.MemorySame.{Whole, memory-written}
 use Rattle.station.specs.Memory.OursKept.{InAreas, inOne, inTwo, memory-long}
 use Rattle.station.specs.Memory.Places.{written-length, written-outside, written-one, written-two}
 use Rattle.station.specs.States.Reachable.{Reachable}
-use Rattle.station.specs.declared.Data.the-variants.{Written}
 use Rattle.station.specs.declared.Heard.the-variants as heard
-use Rattle.station.specs.declared.Station.{Station}
-use Rattle.station.specs.declared.Token.{Token}
+use Rattle.station.specs.Types.{Areas, Fields, Station, Written, Token}
 
 -- the memory after holds the turn in these areas, and is the memory before elsewhere
 pub record Turned (areas : Areas) (turn before after : List ℕ) : Type 0 where

@@ -5,8 +5,6 @@ use mathlib.Core.List.{List}
 use Prim.Native.Nat.{ℕ}
 use lib.ListN.{drop}
 use Rattle.block.specs.Blocks.{startOf}
-use Rattle.frame.specs.declared.Fields.{Fields}
-use Rattle.frame.specs.declared.Refusal.{Refusal}
 use Rattle.frame.specs.declared.Refusal.the-variants as refusals
 use Rattle.laws.specs.Tests.{first, second}
 use Rattle.frame_round_trip.specs.Sent.{requestFields, triggerFields}
@@ -15,9 +13,7 @@ use Rattle.station.specs.Rules.Asking.{Asking, nextFields, turnFor, isPl
 use Rattle.station.specs.Rules.Starting.{triggerDue, requestFallen}
 use Rattle.station.specs.Rules.State.{fresh, holds, begun, requestSent}
 use Rattle.station.specs.declared.Asked.the-variants as answers
-use Rattle.station.specs.declared.Phase.{Phase}
-use Rattle.station.specs.declared.Phase.the-variants.{Off, Listening, Startup, Joining, Participating}
-use Rattle.station.specs.declared.Station.{Station}
+use Rattle.station.specs.Types.{Fields, Refusal, Phase, Off, Listening, Startup, Joining, Participating, Station}
 
 -- a frame that is due: what sending it leaves, its fields, and the turn buffer that it is sent from
 pub data SendCases (station : Station) (memory turn : List ℕ) : Station → Fields → List ℕ → Type 0 where

@@ -6,31 +6,21 @@ use Prim.Native.Nat.{ℕ}
 use lib.Dec.{eqb}
 use lib.ListN.{length}
 use borrow.Author.Tests.{not-false}
-use Rattle.area.specs.declared.Areas.{Areas}
 use Rattle.block.specs.Blocks.{startOf}
 use Rattle.copying.specs.Pasted.{pasted}
 use Rattle.frame.specs.Codes.{isToken, isCyclic}
-use Rattle.frame.specs.declared.Code.{Code}
 use Rattle.frame.specs.declared.Code.the-variants.{Token, Cyclic, Request, Trigger}
-use Rattle.frame.specs.declared.Fields.{Fields}
-use Rattle.frame.specs.declared.Refusal.{Refusal}
 use Rattle.frame.specs.declared.Refusal.the-variants as refusals
 use Rattle.laws.specs.Tests.{first, second, implied}
 use Rattle.members.specs.Members.{entryOf, isListed}
 use Rattle.frame_reading.specs.Reading.{andThen, readHeaderOf, readBodyOf, readOf, dataOf}
-use Rattle.frame_reading.specs.declared.Read.{Read}
-use Rattle.frame_reading.specs.declared.Read.the-variants.{Frame, Refused}
 use Rattle.frame_round_trip.specs.Accepted.{Accepted, accepted as passed, bodied}
 use Rattle.station.specs.Rules.Data.{Gathered, turnWritten, sameAreas, isNext, dropped, gathered}
 use Rattle.station.specs.Rules.Hearing.{Hearing, requested, enters, entersAnswer, participantHeard, accepted, isTaken, knows, isStranger, lentRight, refused, bodyHeard, headerHeard, hearOf}
 use Rattle.station.specs.Rules.Starting.{joinedBy}
 use Rattle.station.specs.Rules.State.{isOff, isParticipating, nothing, fresh, stopped}
-use Rattle.station.specs.declared.Data.the-variants.{Kept, Written, Dropped}
-use Rattle.station.specs.declared.Heard.{Heard}
 use Rattle.station.specs.declared.Heard.the-variants as answers
-use Rattle.station.specs.declared.Phase.{Phase}
-use Rattle.station.specs.declared.Phase.the-variants.{Off, Listening, Startup, Joining, Participating}
-use Rattle.station.specs.declared.Station.{Station}
+use Rattle.station.specs.Types.{Areas, Fields, Code, Refusal, Read, Frame, Refused, Phase, Off, Listening, Startup, Joining, Participating, Station, Kept, Written, Dropped, Heard}
 use Rattle.station.specs.declared.Token.the-variants as tokens
 
 -- a frame that no refusal met

@@ -3,16 +3,12 @@ use mathlib.Core.Path.{_≡_, refl}
 use mathlib.Core.Bool.{Bool, true, false, not, _&&_}
 use lib.Dec.{ltb}
 use Rattle.area.specs.Areas.{inRange}
-use Rattle.frame.specs.declared.Refusal.{Refusal}
 use Rattle.frame.specs.declared.Refusal.the-variants as refusals
 use Rattle.laws.specs.Tests.{first, second}
 use Rattle.frame_reading.specs.Reading.{isStation}
 use Rattle.station.specs.Rules.Starting.{Switching, need, startOf, stopOf}
 use Rattle.station.specs.Rules.State.{isOff, fresh, stopped}
-use Rattle.station.specs.declared.Phase.{Phase}
-use Rattle.station.specs.declared.Phase.the-variants.{Off, Listening, Startup, Joining, Participating}
-use Rattle.station.specs.declared.Settings.{Settings}
-use Rattle.station.specs.declared.Station.{Station}
+use Rattle.station.specs.Types.{Refusal, Settings, Phase, Off, Listening, Startup, Joining, Participating, Station}
 use Rattle.station.specs.declared.Switched.the-variants.{Done, Refused}
 
 -- a call that is refused and alters nothing, or is done, for a reason, and leaves another state

@@ -10,9 +10,7 @@ use Rattle.station.specs.Rules.Starting.{startedUp}
 use Rattle.station.specs.Rules.State.{fresh, begun, counted}
 use Rattle.station.specs.Rules.Ticking.{Ticking, later, fallsDue, joiningWait, watchEnded, watchEnds, tickedBy, tickAnswer, tickOf}
 use Rattle.station.specs.Rules.Waits.{detectionWait, acceptanceTime, numberWait, listeningTime, longestWatch}
-use Rattle.station.specs.declared.Phase.{Phase}
-use Rattle.station.specs.declared.Phase.the-variants.{Off, Listening, Startup, Joining, Participating}
-use Rattle.station.specs.declared.Station.{Station}
+use Rattle.station.specs.Types.{Phase, Off, Listening, Startup, Joining, Participating, Station}
 use Rattle.station.specs.declared.Ticked.the-variants as answers
 
 abbrev done : Station → Ticking

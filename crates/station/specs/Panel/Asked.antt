@@ -13,8 +13,7 @@ use Rattle.panel.specs.Panel.{taken}
 use Rattle.station.specs.Outcomes.AskCases.{triggers, requests, begins, passes, AskCases, refuses, sends}
 use Rattle.station.specs.Panel.History.{passedBy, participates, writesToUs}
 use Rattle.station.specs.Rules.State.{holds}
-use Rattle.station.specs.declared.Phase.the-variants.{Participating}
-use Rattle.station.specs.declared.Station.{Station}
+use Rattle.station.specs.Types.{Participating, Station}
 use Rattle.station.specs.Panel.Moves.{Moves, enter, leave, stays, begin}
 use Rattle.station.specs.Rules.Asking.{Asking, isLast, nextStation, blockSent, dueFields}
 

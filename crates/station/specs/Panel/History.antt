@@ -5,15 +5,12 @@ use mathlib.Core.Bool.{Bool, true, false, cond, not, _&&_, _||_}
 use mathlib.Core.List.{List, [], _∷_}
 use lib.Dec.{eqb, ltb}
 use Rattle.frame.specs.Codes.{isToken}
-use Rattle.frame.specs.declared.Fields.{Fields}
-use Rattle.panel.specs.declared.Figure.{Figure}
 use Rattle.panel.specs.declared.Figure.the-variants.{Nothing, Over, Gap}
 use Rattle.station.specs.Rules.Asking.{askOf, dueFields}
 use Rattle.station.specs.Rules.Calls.{Call, start, stop, tick, hear, ask, after}
 use Rattle.station.specs.Rules.State.{isParticipating, holds, never}
-use Rattle.station.specs.declared.Asked.{Asked}
 use Rattle.station.specs.declared.Asked.the-variants.{Octets, Refused}
-use Rattle.station.specs.declared.Station.{Station}
+use Rattle.station.specs.Types.{Fields, Figure, Station, Asked}
 
 -- the state after a list of calls, made one after the other
 abbrev pub stateAfter : Station → List Call → Station

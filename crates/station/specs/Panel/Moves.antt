@@ -5,16 +5,11 @@ use Prim.Native.Nat.{ℕ, _<_}
 use native.Mathlib.Omega.{arith}
 use lib.Dec.{eqb}
 use Rattle.block.specs.Blocks.{blocksOf}
-use Rattle.members.specs.declared.Members.{Members}
 use Rattle.panel.specs.Panel.{blank, ticked, taken}
-use Rattle.panel.specs.declared.Panel.{Panel}
-use Rattle.units.specs.declared.Ticks.{Ticks}
 use Rattle.station.specs.Panel.History.{participates, takingBy}
 use Rattle.station.specs.Rules.State.{holds, begun, counted}
 use Rattle.station.specs.Rules.Token.{restarted, takes}
-use Rattle.station.specs.declared.Gathering.{Gathering}
-use Rattle.station.specs.declared.Settings.{Settings}
-use Rattle.station.specs.declared.Station.{Station}
+use Rattle.station.specs.Types.{Ticks, Members, Panel, Settings, Gathering, Station}
 
 -- a participant has a block of its turn left to send
 abbrev pub Room : Station → Type 0

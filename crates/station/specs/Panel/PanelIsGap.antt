@@ -5,7 +5,6 @@ use mathlib.Core.List.{List, [], _∷_}
 use Prim.Native.Nat.{ℕ, suc}
 use Rattle.panel.specs.Panel.{blank, ticked, taken, figureOf}
 use Rattle.panel.specs.declared.Figure.the-variants.{Nothing}
-use Rattle.panel.specs.declared.Panel.{Panel}
 use Rattle.station.specs.Outcomes.AskCases.{ask-cases}
 use Rattle.station.specs.Rules.Calls.{Call, start, stop, tick, hear, ask, after}
 use Rattle.station.specs.Outcomes.HearCases.{hear-cases}
@@ -19,9 +18,7 @@ use Rattle.station.specs.Rules.Showing.{figureShown}
 use Rattle.station.specs.Rules.State.{isOff, isParticipating, never}
 use Rattle.station.specs.Outcomes.SwitchCases.{switched-to, start-cases, stop-cases}
 use Rattle.station.specs.Outcomes.TickCases.{tick-cases}
-use Rattle.station.specs.declared.Phase.{Phase}
-use Rattle.station.specs.declared.Phase.the-variants.{Off, Listening, Startup, Joining, Participating}
-use Rattle.station.specs.declared.Station.{Station}
+use Rattle.station.specs.Types.{Panel, Phase, Off, Listening, Startup, Joining, Participating, Station}
 
 -- what every call does to the panel
 moves : (station : Station) (call : Call) → Moves station (isTick call) (passes station call) (after station call)

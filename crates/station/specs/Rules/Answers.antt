@@ -1,11 +1,7 @@
 -- Paper 01, "Numbers the station answers with" and "The token view and the watch": the words of each answer that is an enum, as numbers in
 -- the paper's order.
 use Prim.Native.Nat.{ℕ}
-use Rattle.station.specs.declared.Data.{Data}
-use Rattle.station.specs.declared.Data.the-variants.{Kept, Written, Dropped}
-use Rattle.station.specs.declared.Phase.{Phase}
-use Rattle.station.specs.declared.Phase.the-variants.{Off, Listening, Startup, Joining, Participating}
-use Rattle.station.specs.declared.Token.{Token}
+use Rattle.station.specs.Types.{Phase, Off, Listening, Startup, Joining, Participating, Data, Kept, Written, Dropped, Token}
 use Rattle.station.specs.declared.Token.the-variants.{None, PassedOn, OursNow, RivalPassedOver, RivalWon}
 
 -- "kept as a block, written, dropped"

@@ -5,11 +5,8 @@ use mathlib.Core.List.{List}
 use lib.Dec.{eqb, leb, ltb}
 use lib.ListN.{length, drop}
 use Rattle.area.specs.Areas.{inRange, memoryOctets}
-use Rattle.area.specs.declared.Areas.{Areas}
 use Rattle.block.specs.Blocks.{blocksOf, startOf}
 use Rattle.copying.specs.Pasted.{pasted}
-use Rattle.frame.specs.declared.Fields.{Fields}
-use Rattle.frame.specs.declared.Refusal.{Refusal}
 use Rattle.frame.specs.declared.Refusal.the-variants as refusals
 use Rattle.members.specs.Members.{nextAfter}
 use Rattle.panel.specs.Panel.{taken}
@@ -18,12 +15,8 @@ use Rattle.frame_writing.specs.Writing.{wholeLength, outputOf}
 use Rattle.station.specs.Rules.Data.{turnOf}
 use Rattle.station.specs.Rules.Starting.{triggerDue, requestFallen}
 use Rattle.station.specs.Rules.State.{fresh, holds, begun, requestSent, moved}
-use Rattle.station.specs.declared.Asked.{Asked}
 use Rattle.station.specs.declared.Asked.the-variants as answers
-use Rattle.station.specs.declared.Phase.{Phase}
-use Rattle.station.specs.declared.Phase.the-variants.{Off, Listening, Startup, Joining, Participating}
-use Rattle.station.specs.declared.Settings.{Settings}
-use Rattle.station.specs.declared.Station.{Station}
+use Rattle.station.specs.Types.{Areas, Fields, Refusal, Settings, Phase, Off, Listening, Startup, Joining, Participating, Station, Asked}
 
 -- the call: the state after it, the answer, and the lent buffers after it; the common memory is only read
 pub record Asking : Type 0 where

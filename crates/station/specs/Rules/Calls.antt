@@ -1,18 +1,13 @@
 -- All calls of a station, each with the buffers that are lent to it.
 use Prim.Native.Nat.{ℕ}
 use mathlib.Core.List.{List, [], _∷_}
-use Rattle.frame.specs.declared.Refusal.{Refusal}
 use Rattle.station.specs.Rules.Asking.{askOf}
 use Rattle.station.specs.Rules.Hearing.{hearOf}
 use Rattle.station.specs.Rules.Starting.{startOf, stopOf}
 use Rattle.station.specs.Rules.Ticking.{tickOf}
-use Rattle.station.specs.declared.Asked.{Asked}
 use Rattle.station.specs.declared.Asked.the-variants as asked
-use Rattle.station.specs.declared.Heard.{Heard}
 use Rattle.station.specs.declared.Heard.the-variants as heard
-use Rattle.station.specs.declared.Settings.{Settings}
-use Rattle.station.specs.declared.Station.{Station}
-use Rattle.station.specs.declared.Switched.{Switched}
+use Rattle.station.specs.Types.{Refusal, Settings, Station, Switched, Heard, Asked}
 use Rattle.station.specs.declared.Switched.the-variants as switched
 
 -- a call with its arguments: hearing borrows the common memory and the assembly buffer, asking the common memory, the turn buffer and the

@@ -6,17 +6,12 @@ use lib.Dec.{eqb}
 use lib.ListN.{take, drop}
 use Rattle.area.specs.Areas.{spanOf}
 use Rattle.area.specs.declared.Area.the-variants.{One, Two}
-use Rattle.area.specs.declared.Areas.{Areas}
 use Rattle.area.specs.declared.Span.{Span}
 use Rattle.block.specs.Blocks.{startOf}
 use Rattle.copying.specs.Pasted.{pasted}
-use Rattle.frame.specs.declared.Fields.{Fields}
 use Rattle.members.specs.Members.{entryOf}
 use Rattle.station.specs.Rules.State.{nothing}
-use Rattle.station.specs.declared.Data.{Data}
-use Rattle.station.specs.declared.Data.the-variants.{Kept, Written, Dropped}
-use Rattle.station.specs.declared.Gathering.{Gathering}
-use Rattle.station.specs.declared.Station.{Station}
+use Rattle.station.specs.Types.{Areas, Fields, Gathering, Station, Data, Kept, Written, Dropped}
 
 -- the octets of a span
 abbrev pub octetsIn : Span → List ℕ → List ℕ

@@ -6,26 +6,17 @@ use lib.Dec.{eqb}
 use lib.ListN.{length}
 use Rattle.area.specs.Areas.{memoryOctets}
 use Rattle.frame.specs.Codes.{isToken, isCyclic}
-use Rattle.frame.specs.declared.Code.{Code}
 use Rattle.frame.specs.declared.Code.the-variants.{Token, Cyclic, Request, Trigger}
-use Rattle.frame.specs.declared.Fields.{Fields}
-use Rattle.frame.specs.declared.Refusal.{Refusal}
 use Rattle.frame.specs.declared.Refusal.the-variants as refusals
 use Rattle.members.specs.Listing.{listing}
 use Rattle.members.specs.Members.{isListed, cleared}
 use Rattle.frame_reading.specs.Reading.{readHeaderOf, readBodyOf, dataOf}
-use Rattle.frame_reading.specs.declared.Read.{Read}
-use Rattle.frame_reading.specs.declared.Read.the-variants.{Frame, Refused}
 use Rattle.station.specs.Rules.Data.{Gathered, gathered, without}
 use Rattle.station.specs.Rules.Starting.{oursDue, joinedBy}
 use Rattle.station.specs.Rules.State.{isOff, isParticipating, fresh, stopped, relisted}
 use Rattle.station.specs.Rules.Token.{viewHeard, restarted, outcomeOf}
-use Rattle.station.specs.declared.Data.the-variants.{Dropped}
-use Rattle.station.specs.declared.Heard.{Heard}
 use Rattle.station.specs.declared.Heard.the-variants as answers
-use Rattle.station.specs.declared.Phase.{Phase}
-use Rattle.station.specs.declared.Phase.the-variants.{Off, Listening, Startup, Joining, Participating}
-use Rattle.station.specs.declared.Station.{Station}
+use Rattle.station.specs.Types.{Fields, Code, Refusal, Read, Frame, Refused, Phase, Off, Listening, Startup, Joining, Participating, Station, Dropped, Heard}
 use Rattle.station.specs.declared.Token.the-variants as tokens
 
 -- the call: the state after it, the answer, and the lent buffers after it

@@ -4,23 +4,15 @@ use mathlib.Core.Bool.{Bool, true, false, cond, not, _&&_}
 use mathlib.Core.List.{List, [], _∷_}
 use lib.Dec.{leb, eqb, ltb}
 use Rattle.area.specs.Areas.{inRange}
-use Rattle.area.specs.declared.Areas.{Areas}
 use Rattle.frame.specs.Codes.{isToken}
-use Rattle.frame.specs.declared.Fields.{Fields}
-use Rattle.frame.specs.declared.Refusal.{Refusal}
 use Rattle.frame.specs.declared.Refusal.the-variants as refusals
 use Rattle.members.specs.Listing.{bare, overlapsListed, listing}
 use Rattle.members.specs.Members.{smallest}
-use Rattle.members.specs.declared.Members.{Members}
 use Rattle.frame_reading.specs.Reading.{isStation}
 use Rattle.frame_writing.specs.Writing.{noAreas}
 use Rattle.station.specs.Rules.State.{isOff, noTicks, fresh, stopped, begun, learned}
 use Rattle.station.specs.Rules.Waits.{numberWait, listeningTime}
-use Rattle.station.specs.declared.Phase.{Phase}
-use Rattle.station.specs.declared.Phase.the-variants.{Off, Listening, Startup, Joining, Participating}
-use Rattle.station.specs.declared.Settings.{Settings}
-use Rattle.station.specs.declared.Station.{Station}
-use Rattle.station.specs.declared.Switched.{Switched}
+use Rattle.station.specs.Types.{Areas, Fields, Refusal, Members, Settings, Phase, Off, Listening, Startup, Joining, Participating, Station, Switched}
 use Rattle.station.specs.declared.Switched.the-variants.{Done, Refused}
 
 -- a call of start or stop: the state after it, and the answer

@@ -3,16 +3,9 @@ use Prim.Native.Nat.{ℕ}
 use mathlib.Core.Bool.{Bool, true, false, cond}
 use lib.Dec.{eqb}
 use Rattle.members.specs.Members.{noMembers}
-use Rattle.members.specs.declared.Members.{Members}
 use Rattle.panel.specs.Panel.{blank, taken}
-use Rattle.panel.specs.declared.Panel.{Panel}
-use Rattle.units.specs.declared.Ticks.{Ticks}
 use Rattle.frame_writing.specs.Writing.{noAreas, noWatch}
-use Rattle.station.specs.declared.Gathering.{Gathering}
-use Rattle.station.specs.declared.Phase.{Phase}
-use Rattle.station.specs.declared.Phase.the-variants.{Off, Listening, Startup, Joining, Participating}
-use Rattle.station.specs.declared.Settings.{Settings}
-use Rattle.station.specs.declared.Station.{Station}
+use Rattle.station.specs.Types.{Ticks, Members, Panel, Settings, Phase, Off, Listening, Startup, Joining, Participating, Gathering, Station}
 
 abbrev pub isOff : Phase → Bool
 isOff Off = true

@@ -4,17 +4,12 @@ use mathlib.Core.Bool.{Bool, cond, _&&_}
 use lib.Dec.{eqb, leb, ltb}
 use Rattle.members.specs.Members.{numbersOf, nextAfter, isListed, strikes, missed}
 use Rattle.panel.specs.Panel.{ticked}
-use Rattle.units.specs.declared.Ticks.{Ticks}
 use Rattle.station.specs.Rules.Data.{without}
 use Rattle.station.specs.Rules.Starting.{ownDue, startedUp}
 use Rattle.station.specs.Rules.State.{fresh, counted}
 use Rattle.station.specs.Rules.Token.{restarted}
 use Rattle.station.specs.Rules.Waits.{detectionWait, acceptanceTime, numberWait, listeningTime, watchTicks, longestWatch}
-use Rattle.station.specs.declared.Phase.{Phase}
-use Rattle.station.specs.declared.Phase.the-variants.{Off, Listening, Startup, Joining, Participating}
-use Rattle.station.specs.declared.Settings.{Settings}
-use Rattle.station.specs.declared.Station.{Station}
-use Rattle.station.specs.declared.Ticked.{Ticked}
+use Rattle.station.specs.Types.{Ticks, Settings, Phase, Off, Listening, Startup, Joining, Participating, Station, Ticked}
 use Rattle.station.specs.declared.Ticked.the-variants as answers
 
 -- one tick more, up to a limit

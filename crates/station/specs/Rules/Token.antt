@@ -4,15 +4,9 @@ use Prim.Native.Nat.{ℕ, min}
 use mathlib.Core.Bool.{Bool, cond, not, _&&_}
 use lib.Dec.{eqb}
 use Rattle.frame.specs.Codes.{isToken}
-use Rattle.frame.specs.declared.Fields.{Fields}
-use Rattle.members.specs.declared.Members.{Members}
 use Rattle.panel.specs.Panel.{taken}
-use Rattle.panel.specs.declared.Panel.{Panel}
 use Rattle.station.specs.Rules.State.{moved}
-use Rattle.station.specs.declared.Data.{Data}
-use Rattle.station.specs.declared.Gathering.{Gathering}
-use Rattle.station.specs.declared.Station.{Station}
-use Rattle.station.specs.declared.Token.{Token}
+use Rattle.station.specs.Types.{Fields, Members, Panel, Gathering, Station, Data, Token}
 use Rattle.station.specs.declared.Token.the-variants.{None, PassedOn, OursNow, RivalPassedOver, RivalWon}
 
 -- "On a token frame: if the source is our view, the view becomes the destination. Otherwise the view becomes the smaller of view and

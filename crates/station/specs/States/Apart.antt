@@ -8,8 +8,7 @@ use Rattle.station.specs.States.ApartTicking.{fresh-apart, tick-apart}
 use Rattle.station.specs.States.Disjoint.{Apart}
 use Rattle.station.specs.States.Reachable.{Reachable, unstarted, called, Sound}
 use Rattle.station.specs.States.Sound.{sound}
-use Rattle.station.specs.declared.Phase.the-variants.{Off, Listening}
-use Rattle.station.specs.declared.Station.{Station}
+use Rattle.station.specs.Types.{Off, Listening, Station}
 
 module _ (station : Station) (ok : Sound station) (apart : Apart station) where
   -- every call keeps the areas apart

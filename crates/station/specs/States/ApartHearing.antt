@@ -6,10 +6,8 @@ use Prim.Native.Nat.{ℕ, _≤_}
 use native.Mathlib.Omega.{arith}
 use lib.Dec.{eqb, leb, ltb}
 use borrow.Author.Tests.{leb-true, ltb-true, ltb-false, eq-eqb, ne-eqb}
-use Rattle.frame.specs.declared.Fields.{Fields}
 use Rattle.laws.specs.Tests.{both, second}
 use Rattle.members.specs.Listing.{listing}
-use Rattle.members.specs.declared.Members.{Members}
 use Rattle.frame_reading.specs.Reading.{isStation}
 use Rattle.frame_writing.specs.Writing.{noAreas}
 use Rattle.station.specs.States.Disjoint.{Disjoint, Clear, Apart, disjoint-misses, clear-misses, disjoint-listing, clear-listing}
@@ -23,8 +21,7 @@ use Rattle.station.specs.States.Reachable.{Sound}
 use Rattle.station.specs.Rules.Starting.{requestFallen, oursDue, joinedBy}
 use Rattle.station.specs.Rules.State.{fresh}
 use Rattle.station.specs.Rules.Waits.{numberWait}
-use Rattle.station.specs.declared.Phase.the-variants.{Off, Startup, Joining}
-use Rattle.station.specs.declared.Station.{Station}
+use Rattle.station.specs.Types.{Fields, Members, Off, Startup, Joining, Station}
 use Rattle.station.specs.Rules.Asking.{Asking}
 
 -- what joining reads: nothing is listed any more when our request falls due

@@ -7,8 +7,6 @@ use lib.Dec.{eqb, leb, ltb}
 use borrow.Author.Tests.{leb-true, ltb-false, le-leb}
 use Rattle.laws.specs.Tests.{both, first, second}
 use Rattle.members.specs.Listing.{bare, overlapsListed}
-use Rattle.panel.specs.declared.Panel.{Panel}
-use Rattle.units.specs.declared.Ticks.{Ticks}
 use Rattle.station.specs.States.Disjoint.{Apart, no-overlap, disjoint-none, clear-none, disjoint-missed, clear-missed}
 use Rattle.station.specs.States.KeepsStarting.{station-from, station-to}
 use Rattle.station.specs.States.Reachable.{Sound}
@@ -17,10 +15,7 @@ use Rattle.station.specs.Rules.State.{fresh, counted}
 use Rattle.station.specs.Outcomes.TickCases.{TickCases, off, listens, starts, lapses, begins, givesUp, learns, waits, ends, runs, tick-cases}
 use Rattle.station.specs.Rules.Ticking.{later, fallsDue, joiningWait, tickOf, Ticking}
 use Rattle.station.specs.Rules.Waits.{detectionWait, acceptanceTime, numberWait}
-use Rattle.station.specs.declared.Phase.{Phase}
-use Rattle.station.specs.declared.Phase.the-variants.{Listening, Joining}
-use Rattle.station.specs.declared.Settings.{Settings}
-use Rattle.station.specs.declared.Station.{Station}
+use Rattle.station.specs.Types.{Ticks, Panel, Settings, Phase, Listening, Joining, Station}
 
 pub fresh-apart : (phase : Phase) (own : Settings) → Apart (fresh phase own)
 fresh-apart phase own = record { listed = disjoint-none; ours = λ e. clear-none (own .areas) }

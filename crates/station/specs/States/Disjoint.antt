@@ -9,17 +9,12 @@ use lib.Dec.{eqb}
 use lib.ListN.{getD}
 use borrow.Author.Tests.{ne-eqb}
 use Rattle.area.specs.Overlap.{filled, startsBeforeEnd, partsOverlap, areasOverlap}
-use Rattle.area.specs.declared.Areas.{Areas}
-use Rattle.area.specs.declared.Part.{Part}
 use Rattle.laws.specs.Tests.{neither-first, neither-second}
 use Rattle.members.specs.Listing.{bare, overlapFrom, overlapsOther, listing}
 use Rattle.members.specs.Members.{nobody, noMembers, entryOf, isListed, withEntry, missesSet, struck, strikes, missed}
-use Rattle.members.specs.declared.Entry.{Entry}
-use Rattle.members.specs.declared.Members.{Members}
-use Rattle.units.specs.declared.Milliseconds.{Milliseconds}
 use Rattle.station.specs.States.ListKept.{none-listed, set-either}
 use Rattle.station.specs.Rules.Starting.{requestFallen}
-use Rattle.station.specs.declared.Station.{Station}
+use Rattle.station.specs.Types.{Milliseconds, Areas, Part, Entry, Members, Station}
 
 -- the areas of two different listed stations do not overlap
 abbrev pub Disjoint : Members → Type 0

@@ -15,8 +15,7 @@ use Rattle.station.specs.States.ListKept.{next-station}
 use Rattle.station.specs.States.Reachable.{Ours, Sound}
 use Rattle.station.specs.Rules.Starting.{requestFallen}
 use Rattle.station.specs.Rules.State.{holds, requestSent}
-use Rattle.station.specs.declared.Phase.the-variants.{Startup, Participating}
-use Rattle.station.specs.declared.Station.{Station}
+use Rattle.station.specs.Types.{Startup, Participating, Station}
 
 module _ (station : Station) (ok : Sound station) where
   -- our request, sent in ring startup

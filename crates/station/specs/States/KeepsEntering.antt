@@ -8,15 +8,12 @@ use lib.Dec.{eqb, leb, ltb}
 use lib.ListN.{getD}
 use borrow.Author.Tests.{leb-true, eqb-true, eqb-false, ne-eqb, leb-false}
 use Rattle.area.specs.Areas.{inRange}
-use Rattle.area.specs.declared.Areas.{Areas}
 use Rattle.block.specs.Blocks.{blocksOf, octetsOf}
 use Rattle.frame.specs.Codes.{isToken, isCyclic, carriesAreas}
 use Rattle.frame.specs.Positions.{TW}
 use Rattle.frame.specs.declared.Code.the-variants.{Token}
-use Rattle.frame.specs.declared.Fields.{Fields}
 use Rattle.laws.specs.Tests.{first, second}
 use Rattle.members.specs.Listing.{listing}
-use Rattle.members.specs.declared.Members.{Members}
 use Rattle.frame_reading.specs.Reading.{isStation, fieldsOf}
 use Rattle.frame_round_trip.specs.Accepted.{Accepted}
 use Rattle.frame_round_trip.specs.Shown.{source-is, destination-is, areas-are, block-is, cyclic-carries}
@@ -31,11 +28,7 @@ use Rattle.station.specs.Rules.Starting.{requestFallen, oursDue, endsRou
 use Rattle.station.specs.Rules.State.{isOff, isParticipating, nothing, noTicks, fresh, relisted}
 use Rattle.station.specs.Rules.Token.{viewHeard}
 use Rattle.station.specs.Rules.Waits.{detectionWait, numberWait}
-use Rattle.station.specs.declared.Gathering.{Gathering}
-use Rattle.station.specs.declared.Heard.{Heard}
-use Rattle.station.specs.declared.Phase.{Phase}
-use Rattle.station.specs.declared.Phase.the-variants.{Off, Listening, Startup, Joining, Participating}
-use Rattle.station.specs.declared.Station.{Station}
+use Rattle.station.specs.Types.{Areas, Fields, Members, Phase, Off, Listening, Startup, Joining, Participating, Gathering, Station, Heard}
 
 -- a frame that came through 1 to 5, 7 and 8
 pub record Fit (frame : Fields) : Type 0 where

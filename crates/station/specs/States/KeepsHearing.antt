@@ -8,7 +8,6 @@ use lib.Dec.{eqb}
 use lib.ListN.{getD}
 use borrow.Author.Tests.{eqb-false}
 use Rattle.block.specs.Blocks.{blocksOf}
-use Rattle.frame.specs.declared.Fields.{Fields}
 use Rattle.members.specs.Members.{entryOf, cleared}
 use Rattle.frame_reading.specs.Reading.{isStation}
 use Rattle.station.specs.Rules.Data.{Gathered}
@@ -19,7 +18,7 @@ use Rattle.station.specs.States.KeepsStarting.{off-sound, restarted-soun
 use Rattle.station.specs.States.ListKept.{cleared-kept, placed-misses}
 use Rattle.station.specs.States.Reachable.{Placed, Sound}
 use Rattle.station.specs.Rules.Token.{viewHeard}
-use Rattle.station.specs.declared.Station.{Station}
+use Rattle.station.specs.Types.{Fields, Station}
 
 module _ (station : Station) (octets memory assembly : List ℕ) (ok : Sound station) where
   -- what is gathered after a cyclic frame

@@ -7,9 +7,7 @@ use lib.Dec.{eqb, leb}
 use borrow.Author.Tests.{leb-true, ltb-true}
 use Rattle.block.specs.Blocks.{blocksOf}
 use Rattle.laws.specs.Tests.{second, first}
-use Rattle.members.specs.declared.Members.{Members}
 use Rattle.panel.specs.Panel.{blank, taken, ticked}
-use Rattle.panel.specs.declared.Panel.{Panel}
 use Rattle.frame_reading.specs.Reading.{isStation}
 use Rattle.station.specs.States.ListKept.{none-listed, empty-kept}
 use Rattle.station.specs.States.Reachable.{TypedSettings, Ours, Listed, Placed, Shown, hasView, limitOf, Sound}
@@ -17,11 +15,7 @@ use Rattle.station.specs.Rules.Starting.{startOf, stopOf}
 use Rattle.station.specs.Rules.State.{isOff, fresh, begun}
 use Rattle.station.specs.Outcomes.SwitchCases.{switched-to, start-cases, stop-cases}
 use Rattle.station.specs.Rules.Token.{takes, restarted}
-use Rattle.station.specs.declared.Gathering.{Gathering}
-use Rattle.station.specs.declared.Phase.{Phase}
-use Rattle.station.specs.declared.Phase.the-variants.{Off, Listening, Startup}
-use Rattle.station.specs.declared.Settings.{Settings}
-use Rattle.station.specs.declared.Station.{Station}
+use Rattle.station.specs.Types.{Members, Panel, Settings, Phase, Off, Listening, Startup, Gathering, Station}
 
 -- the panel's counts
 pub blank-shown : Shown blank

@@ -9,8 +9,6 @@ use Rattle.laws.specs.Tests.{both, first, second}
 use Rattle.members.specs.Listing.{bare, overlapsListed}
 use Rattle.members.specs.Members.{nobody, isListed, strikes, missed, struck, entryOf, withEntry, missesSet, smallest, nextAfter}
 use Rattle.panel.specs.Panel.{ticked}
-use Rattle.panel.specs.declared.Panel.{Panel}
-use Rattle.units.specs.declared.Ticks.{Ticks}
 use Rattle.station.specs.Rules.Data.{without}
 use Rattle.station.specs.States.KeepsStarting.{ticked-shown, listening-sound, begun-sound, restarted-sound}
 use Rattle.station.specs.States.ListKept.{missed-kept, next-station, smallest-station, bare-range, placed-with, placed-misses}
@@ -20,10 +18,7 @@ use Rattle.station.specs.Rules.State.{isParticipating, nothing, counted}
 use Rattle.station.specs.Outcomes.TickCases.{TickCases, off, listens, starts, lapses, begins, givesUp, learns, waits, ends, runs, tick-cases}
 use Rattle.station.specs.Rules.Ticking.{later, fallsDue, tickOf, Ticking}
 use Rattle.station.specs.Rules.Waits.{detectionWait, acceptanceTime, numberWait, listeningTime, watchTicks, longestWatch}
-use Rattle.station.specs.declared.Phase.{Phase}
-use Rattle.station.specs.declared.Phase.the-variants.{Off, Listening, Startup, Joining, Participating}
-use Rattle.station.specs.declared.Settings.{Settings}
-use Rattle.station.specs.declared.Station.{Station}
+use Rattle.station.specs.Types.{Ticks, Panel, Settings, Phase, Off, Listening, Startup, Joining, Participating, Station}
 
 -- our own settings with both sizes 0
 abbrev bared : Settings → Settings

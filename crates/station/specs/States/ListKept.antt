@@ -10,18 +10,14 @@ use borrow.Author.Tests.{leb-true, leb-false, le-leb}
 use Rattle.area.specs.Areas.{inArea, inRange}
 use Rattle.area.specs.Overlap.{areasOverlap}
 use Rattle.area.specs.declared.Area.the-variants.{One, Two}
-use Rattle.area.specs.declared.Areas.{Areas}
 use Rattle.block.specs.Blocks.{blocksOf}
 use Rattle.laws.specs.Tests.{both, first, second}
 use Rattle.members.specs.Listing.{bare, overlapsOther, listing}
 use Rattle.members.specs.Members.{nobody, noMembers, entryOf, isListed, withEntry, numbersFrom, numbersOf, withOurs, ringOf, nextAfter, firstOf, smallest, missesSet, cleared, struck, strikes, missed}
-use Rattle.members.specs.declared.Entry.{Entry}
-use Rattle.members.specs.declared.Members.{Members}
 use Rattle.frame_reading.specs.Reading.{isStation}
 use Rattle.settling.specs.Ring.{firstAbove, next}
-use Rattle.units.specs.declared.Milliseconds.{Milliseconds}
 use Rattle.station.specs.States.Reachable.{Entered, Listed, Placed}
-use Rattle.station.specs.declared.Gathering.{Gathering}
+use Rattle.station.specs.Types.{Milliseconds, Areas, Entry, Members, Gathering}
 
 -- an empty list has nobody in it
 all-nobody : (k n : ℕ) → getD (replicate k nobody) n nobody ≡ nobody

@@ -5,23 +5,14 @@ use Prim.Native.Nat.{ℕ, _+_, _≤_, _<_}
 use lib.Dec.{eqb}
 use lib.ListN.{getD, length}
 use Rattle.area.specs.Areas.{inRange}
-use Rattle.area.specs.declared.Part.{Part}
 use Rattle.block.specs.Blocks.{blocksOf}
 use Rattle.members.specs.Members.{entryOf, isListed}
-use Rattle.members.specs.declared.Entry.{Entry}
-use Rattle.members.specs.declared.Members.{Members}
-use Rattle.panel.specs.declared.Panel.{Panel}
 use Rattle.frame_reading.specs.Reading.{isStation}
-use Rattle.units.specs.declared.Milliseconds.{Milliseconds}
 use Rattle.station.specs.Rules.Calls.{Call, start, stop, tick, hear, ask, after}
 use Rattle.station.specs.Rules.Starting.{requestFallen}
 use Rattle.station.specs.Rules.State.{isOff, isParticipating, never, holds}
 use Rattle.station.specs.Rules.Waits.{detectionWait, acceptanceTime, numberWait, listeningTime, watchTicks}
-use Rattle.station.specs.declared.Gathering.{Gathering}
-use Rattle.station.specs.declared.Phase.{Phase}
-use Rattle.station.specs.declared.Phase.the-variants.{Off, Listening, Startup, Joining, Participating}
-use Rattle.station.specs.declared.Settings.{Settings}
-use Rattle.station.specs.declared.Station.{Station}
+use Rattle.station.specs.Types.{Milliseconds, Part, Entry, Members, Panel, Settings, Phase, Off, Listening, Startup, Joining, Participating, Gathering, Station}
 
 -- an address and a size of 16 bits
 pub record TypedPart (part : Part) : Type 0 where

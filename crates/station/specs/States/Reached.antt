@@ -5,7 +5,6 @@ use mathlib.Core.List.{List, [], _∷_}
 use Prim.Native.Nat.{ℕ}
 use Rattle.area.specs.Overlap.{partsOverlap, areasOverlap}
 use Rattle.area.specs.Words.{Holds, shared-overlap}
-use Rattle.area.specs.declared.Areas.{Areas}
 use Rattle.laws.specs.Tests.{neither-first, neither-second}
 use Rattle.members.specs.Members.{entryOf, isListed, ringOf}
 use Rattle.settling.specs.Ring.{Stations}
@@ -18,7 +17,7 @@ use Rattle.station.specs.States.Reachable.{Typed, Reachable, unstarted, 
 use Rattle.station.specs.States.RingKept.{ring-stations}
 use Rattle.station.specs.Rules.Starting.{requestFallen}
 use Rattle.station.specs.Rules.State.{never}
-use Rattle.station.specs.declared.Station.{Station}
+use Rattle.station.specs.Types.{Areas, Station}
 
 -- every call's arguments have their types' ranges
 abbrev pub AllTyped : List Call → Type 0

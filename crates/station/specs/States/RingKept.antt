@@ -9,8 +9,7 @@ use lib.Dec.{ltb}
 use lib.ListN.{length, getD}
 use borrow.Author.Tests.{ltb-true, ltb-false, eqb-false}
 use Rattle.members.specs.Members.{nobody, isListed, numbersFrom, numbersOf, withOurs, ringOf}
-use Rattle.members.specs.declared.Entry.{Entry}
-use Rattle.members.specs.declared.Members.{Members}
+use Rattle.station.specs.Types.{Entry, Members}
 use Rattle.settling.specs.Ring.{_∈_, Ascending, Stations}
 use Rattle.station.specs.States.Reachable.{Listed}
 

@@ -16,8 +16,7 @@ use Rattle.station.specs.Outcomes.TickCases as on-tick
 use Rattle.station.specs.Rules.Ticking.{Ticking}
 use Rattle.station.specs.Rules.Token.{viewHeard}
 use Rattle.station.specs.States.ViewKept.{Known, known-ours, known-with, known-misses, next-known, smallest-known, missed-known}
-use Rattle.station.specs.declared.Phase.the-variants.{Joining, Participating}
-use Rattle.station.specs.declared.Station.{Station}
+use Rattle.station.specs.Types.{Joining, Participating, Station}
 use Rattle.station.specs.Rules.Asking.{Asking, isLast, nextStation}
 
 -- a participant's view is its own number or a listed one

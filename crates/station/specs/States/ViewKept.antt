@@ -7,8 +7,7 @@ use native.Mathlib.Decide.{ℕ-discrete}
 use lib.Dec.{eqb}
 use borrow.Author.Tests.{eq-eqb, eqb-false}
 use Rattle.members.specs.Members.{nobody, entryOf, isListed, withEntry, missesSet, struck, strikes, missed, nextAfter, ringOf, smallest}
-use Rattle.members.specs.declared.Entry.{Entry}
-use Rattle.members.specs.declared.Members.{Members}
+use Rattle.station.specs.Types.{Entry, Members}
 use Rattle.settling.specs.Next.{NextLaws, laws-of}
 use Rattle.settling.specs.Ring.{next}
 use Rattle.station.specs.States.ListKept.{set-either, next-has, smallest-has}

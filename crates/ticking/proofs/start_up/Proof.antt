@@ -4,11 +4,9 @@ use mathlib.Core.Bool.{cond}
 use mathlib.Core.List.{List, [], _∷_}
 use Prim.Native.Nat.{ℕ}
 use Rattle.members.specs.Members.{isEmpty, numbersOf, smallest}
-use Rattle.members.specs.declared.Members.{Members}
 use Rattle.station.specs.Rules.Starting.{startedUp}
 use Rattle.station.specs.Rules.State.{fresh, begun}
-use Rattle.station.specs.declared.Phase.the-variants.{Listening}
-use Rattle.station.specs.declared.Settings.{Settings}
+use Rattle.station.specs.Types.{Members, Settings, Listening}
 use borrow.Author.Needs.{needs}
 use Rattle.ticking.proofs.start_up.Statement.{statement}
 use Rattle.ticking.proofs.start_up.Tie as tie
