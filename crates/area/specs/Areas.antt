@@ -1,9 +1,5 @@
 -- Paper 01, "Frame fields used": the two areas of the common memory.
-use Prim.Native.Nat.{ℕ, _+_, _*_}
-use mathlib.Core.Bool.{Bool, _&&_}
-use mathlib.Core.List.{List, [], _∷_}
-use lib.Dec.{leb}
-use lib.ListN.{getD}
+use Rattle.laws.specs.Usual.{Bool, _&&_, List, [], _∷_, ℕ, _+_, _*_, getD, leb}
 use Rattle.area.specs.declared.Area.{Area}
 use Rattle.area.specs.declared.Area.the-variants.{One, Two}
 use Rattle.area.specs.declared.Areas.{Areas}

@@ -1,7 +1,5 @@
 -- Paper 01, "Starting and joining": when two stations' areas overlap.
-use Prim.Native.Nat.{_+_}
-use mathlib.Core.Bool.{Bool, _&&_, _||_}
-use lib.Dec.{ltb}
+use Rattle.laws.specs.Usual.{Bool, _&&_, _||_, _+_, ltb}
 use Rattle.area.specs.declared.Areas.{Areas}
 use Rattle.area.specs.declared.Part.{Part}
 

@@ -1,8 +1,5 @@
 -- A part that is in range has its octets inside its own area of the common memory. Assumes nothing.
-use mathlib.Core.Path.{_≡_}
-use mathlib.Core.Bool.{true}
-use Prim.Native.Nat.{_+_, _*_, _≤_}
-use native.Mathlib.Omega.{arith}
+use Rattle.laws.specs.Usual.{_≡_, true, _+_, _*_, _≤_, arith}
 use borrow.Author.Tests.{leb-true}
 use Rattle.area.specs.Areas.{inArea, extentOf, spanOf, memoryOctets}
 use Rattle.area.specs.declared.Area.{Area}

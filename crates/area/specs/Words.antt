@@ -1,8 +1,5 @@
 -- Two parts of an area overlap just where some word belongs to both. Assumes nothing.
-use mathlib.Core.Path.{_≡_}
-use mathlib.Core.Bool.{true, _&&_}
-use Prim.Native.Nat.{ℕ, _+_, _≤_, _<_, max}
-use native.Mathlib.Omega.{arith}
+use Rattle.laws.specs.Usual.{_≡_, true, _&&_, ℕ, _+_, _<_, _≤_, max, arith}
 use borrow.Author.Tests.{lt-ltb, ltb-true}
 use Rattle.laws.specs.Tests.{first, second}
 use Rattle.area.specs.Overlap.{filled, startsBeforeEnd, partsOverlap}

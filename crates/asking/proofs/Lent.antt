@@ -1,10 +1,5 @@
 -- The lengths of buffers that are lent right. Assumes nothing.
-use mathlib.Core.Path.{_≡_}
-use mathlib.Core.Bool.{true, _&&_}
-use mathlib.Core.List.{List}
-use Prim.Native.Nat.{ℕ, _≤_}
-use lib.Dec.{eqb, leb}
-use lib.ListN.{length}
+use Rattle.laws.specs.Usual.{_≡_, true, _&&_, List, ℕ, _≤_, length, eqb, leb}
 use borrow.Author.Tests.{eqb-true, leb-true}
 use Rattle.area.specs.Areas.{memoryOctets}
 use Rattle.laws.specs.Tests.{first, second}

@@ -2,8 +2,7 @@
 use station::Phase;
 use station::Station;
 use units::Ticks;
-ghost use mathlib.Core.Path.{_≡_};
-ghost use mathlib.Core.Bool.{true};
+ghost use Rattle.laws.specs.Usual.{_≡_, true};
 ghost use Rattle.station.specs.Rules.State.{requestSent};
 ghost use Rattle.station.specs.Rules.Asking.{isPlaced, nextStation, blockSent};
 

@@ -1,9 +1,5 @@
 -- A place inside our turn: its next block is one of at most seventeen. Assumes nothing.
-use mathlib.Core.Path.{_≡_, refl}
-use mathlib.Core.Bool.{Bool, true, false}
-use Prim.Native.Nat.{ℕ, _+_, _*_, _≤_}
-use native.Mathlib.Omega.{arith}
-use lib.Dec.{eqb, leb, ltb}
+use Rattle.laws.specs.Usual.{_≡_, refl, Bool, true, false, ℕ, _+_, _*_, _≤_, arith, eqb, leb, ltb}
 use borrow.Author.Tests.{ltb-true, eqb-true, eqb-false, le-leb, lt-leb}
 use Rattle.area.specs.Areas.{inRange, memoryOctets}
 use Rattle.area.specs.declared.Areas.{Areas}

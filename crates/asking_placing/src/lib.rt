@@ -3,11 +3,8 @@
 use area::Areas;
 use panel::Panel;
 use station::Settings;
-ghost use mathlib.Core.Path.{_≡_};
-ghost use mathlib.Core.Bool.{true, cond, _&&_};
-ghost use Prim.Native.Nat.{_+_};
-ghost use lib.Dec.{eqb};
-ghost use Rattle.panel.specs.Panel.{taken};
+ghost use Rattle.laws.specs.Usual.{_≡_, true, cond, _&&_, _+_, eqb};
+ghost use Rattle.panel.specs.Panel.{afterTaking};
 ghost use Rattle.station.specs.Rules.Asking.{placedIn, lastIn, lentRight};
 
 pub fn is_lent_right(memory: &[u8], turn: &[u8], output: &[u8]) -> bool
@@ -50,7 +47,7 @@ pub fn after_block(own: Settings, view: u8, block: u8, panel: Panel, next: u8) -
     requires { ⌜ placedIn (own .areas) block ≡ true ⌝ }
     ensures { λ r. ⌜ r .view ≡ cond (lastIn (own .areas) block) next view ⌝ }
     ensures { λ r. ⌜ r .block ≡ cond (lastIn (own .areas) block) 0 (block + 1) ⌝ }
-    ensures { λ r. ⌜ r .panel ≡ cond (lastIn (own .areas) block && eqb next (own .number)) (taken panel) panel ⌝ }
+    ensures { λ r. ⌜ r .panel ≡ cond (lastIn (own .areas) block && eqb next (own .number)) (afterTaking panel) panel ⌝ }
 {
     let areas = own.areas;
     let last = is_last(areas, block);

@@ -2,8 +2,7 @@
 use frame::Code;
 use frame::Fields;
 use station::Settings;
-ghost use mathlib.Core.Path.{_≡_};
-ghost use mathlib.Core.Bool.{true, cond};
+ghost use Rattle.laws.specs.Usual.{_≡_, true, cond};
 ghost use Rattle.frame.specs.declared.Code.the-variants.{Token, Cyclic};
 ghost use Rattle.station.specs.Rules.Asking.{placedIn, nextFields};
 

@@ -2,10 +2,7 @@
 use area::Area;
 use area::Areas;
 use area::Part;
-ghost use mathlib.Core.Path.{_≡_};
-ghost use mathlib.Core.Bool.{true};
-ghost use Prim.Native.Nat.{_+_, _*_, _≤_};
-ghost use lib.ListN.{length};
+ghost use Rattle.laws.specs.Usual.{_≡_, true, _+_, _*_, _≤_, length};
 ghost use Rattle.area.specs.Areas.{inArea, inRange, memoryOctets, spanOf};
 ghost use Rattle.station.specs.Rules.Asking.{turnFor};
 ghost use Rattle.copying.specs.Pasted.{pasted};

@@ -1,8 +1,5 @@
 -- How the blocks cut a turn. Assumes nothing.
-use mathlib.Core.Path.{_≡_}
-use mathlib.Core.Bool.{true}
-use Prim.Native.Nat.{ℕ, _+_, _≤_, _<_}
-use native.Mathlib.Omega.{arith}
+use Rattle.laws.specs.Usual.{_≡_, true, ℕ, _+_, _<_, _≤_, arith}
 use borrow.Author.Tests.{leb-true}
 use Rattle.laws.specs.Tests.{first, second}
 use Rattle.area.specs.Areas.{inArea, inRange, memoryOctets}

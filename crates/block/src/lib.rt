@@ -1,7 +1,6 @@
 // A turn's data and the blocks that they are cut into.
 use area::Areas;
-ghost use mathlib.Core.Path.{_≡_};
-ghost use Prim.Native.Nat.{_-_, min};
+ghost use Rattle.laws.specs.Usual.{_≡_, _-_, min};
 ghost use Rattle.block.specs.Blocks.{octetsOf, blocksOf, startOf, lengthOf};
 
 // "cut into blocks of 1024, the last one shorter or equal"

@@ -1,8 +1,5 @@
 -- The numbers lose nothing: each answer can be told from its numbers.
-use Prim.Native.Nat.{ℕ}
-use mathlib.Core.Bool.{cond}
-use mathlib.Core.Path.{_≡_, refl, ap}
-use lib.Dec.{eqb}
+use Rattle.laws.specs.Usual.{_≡_, refl, ap, cond, ℕ, eqb}
 use Rattle.frame.specs.Refusals.{numberOf}
 use Rattle.frame.specs.declared.Refusal.the-variants.{Cut, Mark, Length, Code, Address, Taken, Area, Block, Stranger, NotDue, Buffer}
 use Rattle.station.specs.Rules.Answers.{dataNumber, tokenNumber, dataOf}

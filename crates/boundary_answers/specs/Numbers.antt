@@ -1,7 +1,6 @@
 -- The answers as numbers. Refusals, outcomes and phases have the numbers of paper 01; the words of an answer and the kinds of figure are
 -- numbered here.
-use Prim.Native.Nat.{ℕ}
-use mathlib.Core.Bool.{cond}
+use Rattle.laws.specs.Usual.{cond, ℕ}
 use Rattle.frame.specs.Refusals.{numberOf}
 use Rattle.panel.specs.Panel.{isOver, shown}
 use Rattle.panel.specs.declared.Figure.the-variants.{Nothing, Over, Gap}

@@ -1,10 +1,6 @@
 -- The state on both sides of the boundary: the station list is lent apart, and of the rest, the core, only the phase is changed: C has no enums
 -- of ours, so it crosses as its number.
-use Prim.Native.Nat.{ℕ}
-use mathlib.Core.Bool.{Bool, cond}
-use mathlib.Core.List.{List}
-use mathlib.Core.Path.{_≡_, refl, ap}
-use lib.Dec.{eqb}
+use Rattle.laws.specs.Usual.{_≡_, refl, ap, Bool, cond, List, ℕ, eqb}
 use Rattle.boundary_lists.specs.Lists.{membersIn}
 use Rattle.panel.specs.Panel.{figureOf}
 use Rattle.panel.specs.declared.Figure.the-variants.{Nothing}

@@ -1,11 +1,7 @@
 -- Laws for the search by the flags. Assumes nothing.
-use mathlib.Core.Path.{_≡_, refl, ap, _∙_}
-use mathlib.Core.Bool.{Bool, true, false, cond, _||_}
-use mathlib.Core.List.{List, [], _∷_}
-use Prim.Native.Nat.{ℕ, suc, _+_, _<_, _≤_, min}
+use Rattle.laws.specs.Usual.{_≡_, refl, ap, _∙_, Bool, true, false, cond, _||_, List, [], _∷_, ℕ, suc, _+_, _<_, _≤_, min, arith, length, getD, drop}
 use native.Mathlib.Nat.{le-refl}
-use native.Mathlib.Omega.{arith}
-use lib.ListN.{length, getD, drop, length-drop}
+use lib.ListN.{length-drop}
 use Rattle.laws.specs.Tests.{neither-first, neither-second}
 use Rattle.members.specs.Members.{numbersFrom}
 use Rattle.members_searching.specs.Search.{firstIn, firstFrom, numberOr}

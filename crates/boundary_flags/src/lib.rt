@@ -1,6 +1,5 @@
 // Next, by the flags alone of a station list in arrays.
-ghost use mathlib.Core.Path.{_≡_};
-ghost use Prim.Native.Nat.{_+_, _≤_, min};
+ghost use Rattle.laws.specs.Usual.{_≡_, _+_, _≤_, min};
 ghost use Rattle.members_searching.specs.Search.{firstFrom, numberOr};
 ghost use Rattle.boundary_lists.specs.Lists.{flagged, nextIn, anyOfFour, anyOfSixteen};
 

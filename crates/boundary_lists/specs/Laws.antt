@@ -1,14 +1,11 @@
 -- The list that the arrays hold: its entries, its changes, next, and that it says all of the arrays. Assumes nothing.
-use mathlib.Core.Path.{_≡_, refl, ap, ap₂, sym, _∙_}
-use mathlib.Core.Bool.{Bool, false, cond}
-use mathlib.Core.List.{List, [], _∷_}
+use Rattle.laws.specs.Usual.{_≡_, refl, sym, ap, ap₂, _∙_, Bool, false, cond, List, [], _∷_, ℕ, suc, _+_, _*_, _/_, _%_, _<_, _≤_, arith, length, getD, take, set}
 use mathlib.Core.Logic.{_≢_}
-use Prim.Native.Nat.{ℕ, zero, suc, _+_, _*_, _/_, _%_, _<_, _≤_}
+use Prim.Native.Nat.{zero}
 use native.Mathlib.Decide.{ℕ-discrete}
 use native.Mathlib.Nat.{zero-add}
 use native.Mathlib.Numerals.{add-one}
-use native.Mathlib.Omega.{arith}
-use lib.ListN.{length, getD, set, take, length-set}
+use lib.ListN.{length-set}
 use lib.Seq.{take-all, take-suc, take-suc-set, ext-getD, getD-set-same, getD-set-other}
 use Rattle.members.specs.Members.{nobody, entryOf, isListed, withEntry, cleared, numbersFrom, withOurs, nextAfter}
 use Rattle.settling.specs.Ring.{next}

@@ -1,9 +1,6 @@
 -- The station list in four arrays of numbers: whether a number is listed, its areas, its watch time and its misses.
-use mathlib.Core.Path.{_≡_}
-use Prim.Native.Nat.{ℕ, zero, suc, _+_, _*_}
-use mathlib.Core.Bool.{Bool, false, _||_}
-use mathlib.Core.List.{List, [], _∷_}
-use lib.ListN.{length, getD}
+use Rattle.laws.specs.Usual.{_≡_, Bool, false, _||_, List, [], _∷_, ℕ, suc, _+_, _*_, length, getD}
+use Prim.Native.Nat.{zero}
 use Rattle.area.specs.declared.Areas.{Areas}
 use Rattle.members.specs.Members.{nextAfter}
 use Rattle.members.specs.declared.Entry.{Entry}

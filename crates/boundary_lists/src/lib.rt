@@ -5,9 +5,7 @@ use area::Part;
 use members::Entry;
 use members::Members;
 use units::Milliseconds;
-ghost use mathlib.Core.Path.{_≡_};
-ghost use mathlib.Core.Bool.{false};
-ghost use lib.ListN.{getD, set};
+ghost use Rattle.laws.specs.Usual.{_≡_, false, getD, set};
 ghost use Rattle.members.specs.Members.{entryOf};
 ghost use Rattle.boundary_lists.specs.Lists.{membersIn};
 

@@ -1,12 +1,6 @@
 -- A participant's calls on its core, where the list is left as it is but for one station's misses; and that they are the calls of its station.
 -- A core's phase is a number, and 4 is that of participating, by which the proofs here go.
-use Prim.Native.Nat.{ℕ, _+_}
-use mathlib.Core.Bool.{Bool, true, false, cond, not, _&&_, _||_}
-use mathlib.Core.List.{List}
-use mathlib.Core.Path.{_≡_, ap, _∙_}
-use lib.Dec.{eqb, leb}
-use lib.ListN.{length, drop}
-use native.Mathlib.Omega.{arith}
+use Rattle.laws.specs.Usual.{_≡_, ap, _∙_, Bool, true, false, cond, not, _&&_, _||_, List, ℕ, _+_, arith, length, drop, eqb, leb}
 use borrow.Author.Tests.{eqb-true, not-true}
 use Rattle.station.specs.Rules.Asking.{placedIn, lastIn, nextFields, turnFor}
 use Rattle.block.specs.Blocks.{startOf}
@@ -14,7 +8,7 @@ use Rattle.frame.specs.Codes.{isToken, isCyclic}
 use Rattle.hearing_data.specs.Body.{body-read}
 use Rattle.laws.specs.Tests.{first, second}
 use Rattle.members.specs.Members.{isListed, nextAfter}
-use Rattle.panel.specs.Panel.{ticked, taken}
+use Rattle.panel.specs.Panel.{ticked, afterTaking}
 use Rattle.frame_reading.specs.Reading.{andThen, readOf, readHeaderOf, readBodyOf, dataOf}
 use Rattle.frame_reading.specs.declared.Read.the-variants as reads
 use Rattle.frame_round_trip.specs.Accepted.{bodied}
@@ -76,7 +70,7 @@ restartedCore core view gathering = record {
   view = view;
   block = cond (eqb view (core .own .number)) (core .block) 0;
   gathering = gathering;
-  panel = cond (takes (core .own .number) (core .view) view) (taken (core .panel)) (core .panel);
+  panel = cond (takes (core .own .number) (core .view) view) (afterTaking (core .panel)) (core .panel);
 }
 
 -- whether a participant accepts a cyclic frame that was read: neither number 6 nor number 9 applies
@@ -146,7 +140,7 @@ sentCore core next = record {
   view = cond (lastIn (core .own .areas) (core .block)) next (core .view);
   block = cond (lastIn (core .own .areas) (core .block)) 0 (core .block + 1);
   gathering = core .gathering;
-  panel = cond (lastIn (core .own .areas) (core .block) && eqb next (core .own .number)) (taken (core .panel)) (core .panel);
+  panel = cond (lastIn (core .own .areas) (core .block) && eqb next (core .own .number)) (afterTaking (core .panel)) (core .panel);
 }
 
 -- a participant that holds is asked as the rules say

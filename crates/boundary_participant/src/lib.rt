@@ -2,8 +2,7 @@
 use boundary_core::Core;
 use frame::Fields;
 use units::Ticks;
-ghost use mathlib.Core.Path.{_≡_};
-ghost use mathlib.Core.Bool.{true};
+ghost use Rattle.laws.specs.Usual.{_≡_, true};
 ghost use Rattle.boundary_participant.specs.Quick.{isQuiet, quietAfter, isAccepted, holdsBlock, sentCore};
 
 pub fn is_quiet(core: Core) -> bool

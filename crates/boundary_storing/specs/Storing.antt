@@ -1,11 +1,7 @@
 -- An entry stored in the arrays is stored in the list that they hold. Assumes nothing.
-use mathlib.Core.Path.{_≡_}
-use mathlib.Core.Bool.{Bool, false}
-use mathlib.Core.List.{List}
+use Rattle.laws.specs.Usual.{_≡_, Bool, false, List, ℕ, _+_, _*_, _<_, _≤_, arith, length, getD, set}
 use mathlib.Core.Logic.{_≢_}
-use Prim.Native.Nat.{ℕ, _+_, _*_, _<_, _≤_}
-use native.Mathlib.Omega.{arith}
-use lib.ListN.{length, getD, set, length-set}
+use lib.ListN.{length-set}
 use lib.Seq.{getD-set-same, getD-set-other}
 use Rattle.area.specs.declared.Areas.{Areas}
 use Rattle.members.specs.Members.{withEntry}

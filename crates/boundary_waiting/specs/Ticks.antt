@@ -1,7 +1,5 @@
 -- A tick that only counts is the tick of its station. Assumes nothing.
-use mathlib.Core.Path.{_≡_, refl}
-use mathlib.Core.Bool.{Bool, true, false, not, _&&_, _||_}
-use lib.Dec.{eqb, leb}
+use Rattle.laws.specs.Usual.{_≡_, refl, Bool, true, false, not, _&&_, _||_, eqb, leb}
 use borrow.Author.Tests.{eqb-true, not-true}
 use Rattle.laws.specs.Tests.{first, second, neither-first, neither-second}
 use Rattle.members.specs.declared.Members.{Members}

@@ -1,8 +1,6 @@
 -- The ticks of a station that does not participate yet, on its core: those that only count, which are all but the ones that end a wait. A core's
 -- phase is a number, by which the proofs go: 1 listening, 2 ring startup, 3 joining.
-use Prim.Native.Nat.{ℕ}
-use mathlib.Core.Bool.{Bool, cond, not, _&&_, _||_}
-use lib.Dec.{eqb, leb}
+use Rattle.laws.specs.Usual.{Bool, cond, not, _&&_, _||_, ℕ, eqb, leb}
 use Rattle.station.specs.Rules.Answers.{phaseNumber}
 use Rattle.station.specs.Rules.Ticking.{later, waitEnds, waitedThen}
 use Rattle.station.specs.Rules.Waits.{detectionWait, acceptanceTime, listeningTime}

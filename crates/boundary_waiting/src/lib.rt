@@ -1,8 +1,7 @@
 // The ticks of a station that does not participate yet, on its core alone, where they only count.
 use boundary_core::Core;
 use units::Ticks;
-ghost use mathlib.Core.Path.{_≡_};
-ghost use mathlib.Core.Bool.{cond};
+ghost use Rattle.laws.specs.Usual.{_≡_, cond};
 ghost use Rattle.boundary_core.specs.Crossing.{isIn};
 ghost use Rattle.station.specs.declared.Phase.the-variants.{Joining};
 ghost use Rattle.boundary_waiting.specs.Waiting.{limitOf, waitedJoining, startupEnds, joiningEnds, isWaiting, waitedCore};

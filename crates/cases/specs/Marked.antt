@@ -1,10 +1,5 @@
 -- Paper 01, "Marked cases (*) and others": the marked cases are one table, held against the rules by one check.
-use mathlib.Core.Path.{_≡_, refl}
-use mathlib.Core.Bool.{Bool, true, false, cond, _&&_}
-use mathlib.Core.List.{List, [], _∷_}
-use Prim.Native.Nat.{ℕ, _-_, min}
-use lib.Dec.{eqb}
-use lib.ListN.{replicate}
+use Rattle.laws.specs.Usual.{_≡_, refl, Bool, true, false, cond, _&&_, List, [], _∷_, ℕ, _-_, min, replicate, eqb}
 use Rattle.block.specs.Blocks.{blocksOf, lengthOf}
 use Rattle.frame.specs.Refusals.{numberOf}
 use Rattle.frame.specs.declared.Code.the-variants.{Token, Cyclic, Request}

@@ -1,11 +1,9 @@
 -- Laws of putting one list into another. Assumes nothing.
-use mathlib.Core.Path.{_≡_, _∙_, ap, ap₂, sym}
-use mathlib.Core.List.{List, [], _∷_, _++_, append-assoc, append-nil}
-use Prim.Native.Nat.{ℕ, suc, _+_, _-_, _≤_, _<_}
+use Rattle.laws.specs.Usual.{_≡_, sym, ap, ap₂, _∙_, List, [], _∷_, _++_, ℕ, suc, _+_, _-_, _<_, _≤_, arith, length, getD, take, drop, set}
+use mathlib.Core.List.{append-assoc, append-nil}
 use native.Mathlib.Numerals.{add-one}
 use native.Mathlib.Nat.{zero-add, add-zero}
-use native.Mathlib.Omega.{arith}
-use lib.ListN.{length, take, drop, getD, set, take-append-drop, length-append, length-take, length-drop, drop-of-length-le}
+use lib.ListN.{take-append-drop, length-append, length-take, length-drop, drop-of-length-le}
 use lib.Seq.{take-append-seam, drop-append-add, drop-drop, drop-cons, append-snoc, set-at, set-split, take-all, take-at, take-add, length-take-le}
 use Rattle.copying.specs.Pasted.{pasted}
 

@@ -1,7 +1,5 @@
 -- A list with another put in the place of what stood there.
-use Prim.Native.Nat.{ℕ, _+_}
-use mathlib.Core.List.{List, _++_}
-use lib.ListN.{length, take, drop}
+use Rattle.laws.specs.Usual.{List, _++_, ℕ, _+_, length, take, drop}
 
 -- d with s in the place of its octets from `at` on
 abbrev pub pasted : List ℕ → ℕ → List ℕ → List ℕ

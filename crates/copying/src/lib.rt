@@ -1,7 +1,5 @@
 // Copying octets into the middle of a buffer.
-ghost use mathlib.Core.Path.{_≡_};
-ghost use Prim.Native.Nat.{_+_, _-_, _≤_, min};
-ghost use lib.ListN.{length};
+ghost use Rattle.laws.specs.Usual.{_≡_, _+_, _-_, _≤_, min, length};
 ghost use Rattle.copying.specs.Pasted.{pasted};
 
 fn put(source: &[u8], target: &mut [u8], at: usize)

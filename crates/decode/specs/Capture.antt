@@ -1,9 +1,5 @@
 -- The program `decode`: a capture comes octet by octet, and each line is answered by one line.
-use Prim.Native.Nat.{ℕ}
-use mathlib.Core.Path.{_≡_}
-use mathlib.Core.Bool.{cond}
-use mathlib.Core.List.{List, [], _++_}
-use lib.ListN.{length, replicate}
+use Rattle.laws.specs.Usual.{_≡_, cond, List, [], _++_, ℕ, length, replicate}
 use Rattle.decode_answers.specs.Answers.{textOf}
 use Rattle.decode_line.specs.Gathering.{fresh, pushed, bufferAfter, answered, begun}
 use Rattle.decode_line.specs.declared.Answer.the-variants.{Bad}

@@ -1,11 +1,7 @@
 -- What is printed for an input: the answer to each of its lines as a whole, in their order, and `bad` for a last line without its line feed.
 -- Assumes nothing.
-use mathlib.Core.Path.{_≡_, refl, ap, ap₂, sym, _∙_}
-use mathlib.Core.Bool.{Bool, cond}
-use mathlib.Core.List.{List, [], _∷_, _++_}
-use Prim.Native.Nat.{ℕ}
-use native.Mathlib.Omega.{arith}
-use lib.ListN.{length, replicate, length-set}
+use Rattle.laws.specs.Usual.{_≡_, refl, sym, ap, ap₂, _∙_, Bool, cond, List, [], _∷_, _++_, ℕ, arith, length, replicate}
+use lib.ListN.{length-set}
 use Rattle.decode_answers.specs.Answers.{textOf}
 use Rattle.decode_line.specs.Begun.{begun-line}
 use Rattle.decode_line.specs.Gathering.{fresh, pushed, bufferBy, bufferAfter, answered}

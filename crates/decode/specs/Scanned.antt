@@ -1,8 +1,5 @@
 -- A scan of a part of the capture takes it octet by octet. Assumes nothing.
-use mathlib.Core.Path.{_≡_, refl}
-use mathlib.Core.List.{List, [], _∷_}
-use Prim.Native.Nat.{ℕ}
-use lib.ListN.{drop}
+use Rattle.laws.specs.Usual.{_≡_, refl, List, [], _∷_, ℕ, drop}
 use Rattle.decode_line.specs.Gathering.{pushed, bufferAfter, made, scanned, bufferScanned}
 use Rattle.decode_line.specs.Line.{pushedAll, bufferAll}
 use Rattle.text_scanning.specs.Scans.{scan-part, buffer-part, scan-line, buffer-line}

@@ -3,10 +3,7 @@
 use decode_line::Answer;
 use decode_line::Gathered;
 use libc::STDOUT_FILENO;
-ghost use mathlib.Core.Path.{_≡_};
-ghost use mathlib.Core.List.{List};
-ghost use Prim.Native.Nat.{ℕ, _<_};
-ghost use lib.ListN.{length, take, replicate};
+ghost use Rattle.laws.specs.Usual.{_≡_, List, ℕ, _<_, length, take, replicate};
 ghost use Rattle.copying.specs.Pasted.{pasted};
 ghost use Rattle.decode_line.specs.Gathering.{fresh};
 ghost use Rattle.text_feeding.specs.Feeding.{between, ended, Forward, Onward, Taken, Arrived};

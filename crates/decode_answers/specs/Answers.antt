@@ -1,6 +1,5 @@
 -- The line that is printed for each answer.
-use Prim.Native.Nat.{ℕ}
-use mathlib.Core.List.{List, [], _∷_}
+use Rattle.laws.specs.Usual.{List, [], _∷_, ℕ}
 use Rattle.frame.specs.Codes.{codeNumber}
 use Rattle.frame.specs.Refusals.{numberOf}
 use Rattle.frame.specs.declared.Fields.{Fields}

@@ -1,10 +1,6 @@
 -- A line has begun as soon as one octet of it has come. Assumes nothing.
-use mathlib.Core.Path.{_≡_, refl}
-use mathlib.Core.Bool.{true}
-use mathlib.Core.List.{List, [], _∷_}
-use Prim.Native.Nat.{ℕ, _<_}
+use Rattle.laws.specs.Usual.{_≡_, refl, true, List, [], _∷_, ℕ, _<_, arith}
 use native.Mathlib.Decide.{decLt}
-use native.Mathlib.Omega.{arith}
 use borrow.Author.Tests.{lt-ltb, le-ltb}
 use Rattle.decode_line.specs.Gathering.{countAfter, pushedBy, pushed, begun}
 use Rattle.text_hexadecimal.specs.Hexadecimal.{digitOf}

@@ -1,9 +1,5 @@
 -- A line that comes octet by octet, into a buffer of limited length.
-use Prim.Native.Nat.{ℕ, _+_, _*_, _%_}
-use mathlib.Core.Bool.{Bool, true, cond}
-use mathlib.Core.List.{List}
-use lib.Dec.{ltb}
-use lib.ListN.{length, set, take}
+use Rattle.laws.specs.Usual.{Bool, true, cond, List, ℕ, _+_, _*_, _%_, length, take, set, ltb}
 use Rattle.frame_reading.specs.Reading.{readOf}
 use Rattle.text_hexadecimal.specs.Hexadecimal.{digitOf}
 use Rattle.text_scanning.specs.Scanning.{scanOf, bufferOf}

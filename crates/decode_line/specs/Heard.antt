@@ -1,12 +1,10 @@
 -- A line that came octet by octet, into a buffer of 1121 octets or more, is answered as the whole line is: a frame of more octets than the
 -- buffer has is refused like one that just does not fit. Assumes nothing.
-use mathlib.Core.Path.{_≡_, refl, ap, sym, _∙_}
-use mathlib.Core.List.{List, [], _∷_, _++_, append-nil, append-assoc}
-use Prim.Native.Nat.{ℕ, _+_, _*_, _≤_, _<_}
+use Rattle.laws.specs.Usual.{_≡_, refl, sym, ap, _∙_, List, [], _∷_, _++_, ℕ, _+_, _*_, _<_, _≤_, arith, length, take, set}
+use mathlib.Core.List.{append-nil, append-assoc}
 use native.Mathlib.Decide.{decLe, decLt}
 use native.Mathlib.Numerals.{add-one}
-use native.Mathlib.Omega.{arith}
-use lib.ListN.{length, take, set, length-set}
+use lib.ListN.{length-set}
 use lib.Seq.{length-take-le, take-all, take-append-le, take-suc-set, set-out}
 use borrow.Author.Tests.{lt-ltb, le-ltb, lt-leb, le-leb}
 use Rattle.frame.specs.declared.Refusal.the-variants.{Cut}

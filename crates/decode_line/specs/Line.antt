@@ -1,6 +1,5 @@
 -- The answer to a whole line.
-use Prim.Native.Nat.{ℕ}
-use mathlib.Core.List.{List}
+use Rattle.laws.specs.Usual.{List, ℕ}
 use Rattle.frame_reading.specs.Reading.{readOf}
 use Rattle.decode_line.specs.Gathering.{pushed, bufferAfter}
 use Rattle.text_hexadecimal.specs.Hexadecimal.{Spelled, octets, neither, spelled}

@@ -4,8 +4,7 @@
 use frame_reading::Read;
 use text_hexadecimal::Hexadecimal;
 use text_hexadecimal::digit_of;
-ghost use mathlib.Core.Path.{_≡_};
-ghost use lib.ListN.{length, set, take, drop};
+ghost use Rattle.laws.specs.Usual.{_≡_, length, take, drop, set};
 ghost use Rattle.frame_reading.specs.Reading.{readOf};
 ghost use Rattle.decode_line.specs.Gathering.{fresh, octetOf, countAfter, placed, stored, pushed, bufferAfter, answered, begun, scanned, bufferScanned};
 

@@ -1,9 +1,6 @@
 -- A station as a host in C keeps it, its core and its list in four arrays, and what each exported call leaves of it: the contracts of
 -- `crates/flnet_station/src/lib.rt`, one equation for each of their clauses. ("Box" is the request's word for a station's device.)
-use mathlib.Core.Path.{_≡_}
-use mathlib.Core.Bool.{Bool}
-use mathlib.Core.List.{List}
-use Prim.Native.Nat.{ℕ}
+use Rattle.laws.specs.Usual.{_≡_, Bool, List, ℕ}
 use Rattle.boundary_core.specs.Crossing.{coreOf, stationIn}
 use Rattle.boundary_answers.specs.Numbers.{switchedAnswer, tickedAnswer, heardAnswer, askedAnswer}
 use Rattle.boundary_answers.specs.declared.Answer.{Answer}

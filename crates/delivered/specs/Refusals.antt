@@ -1,10 +1,7 @@
 -- Demand 1 of the exported calls: "a numbered refusal changes no buffer, and no station state except in the one case that the table names".
 -- Assumes nothing.
-use mathlib.Core.Path.{_≡_, refl, ap, sym, _∙_}
-use mathlib.Core.Bool.{false}
-use mathlib.Core.List.{List}
-use Prim.Native.Nat.{ℕ, zero, suc, _≤_, _<_}
-use native.Mathlib.Omega.{arith}
+use Rattle.laws.specs.Usual.{_≡_, refl, sym, ap, _∙_, false, List, ℕ, suc, _<_, _≤_, arith}
+use Prim.Native.Nat.{zero}
 use Rattle.boundary_core.specs.Crossing.{coreOf, stationOf, station-kept, phaseOf}
 use Rattle.boundary_answers.specs.Numbers.{switchedAnswer, tickedAnswer, heardAnswer, askedAnswer}
 use Rattle.boundary_answers.specs.declared.Answer.{Answer}
@@ -15,7 +12,7 @@ use Rattle.boundary_lists.specs.Laws.{list-told}
 use Rattle.boundary_lists.specs.Lists.{membersIn}
 use Rattle.station.specs.Rules.Answers.{phaseNumber}
 use Rattle.station.specs.Rules.Asking.{askOf}
-use Rattle.station.specs.Rules.Calls.{Call, start, stop, tick, hear, ask, after, lent, Verdict, refusedBy, taken, verdict, switchedVerdict, heardVerdict, askedVerdict}
+use Rattle.station.specs.Rules.Calls.{Call, start, stop, tick, hear, ask, after, lent, Verdict, refusedBy, unrefused, verdict, switchedVerdict, heardVerdict, askedVerdict}
 use Rattle.station.specs.Rules.Hearing.{hearOf}
 use Rattle.station.specs.RefusedLeft.{Spared, same, turnedOff, Left, refused-left}
 use Rattle.station.specs.Rules.Starting.{startOf, stopOf}
@@ -49,7 +46,7 @@ switched-told : (answer : Switched) → switchedAnswer answer .word ≡ 4 → To
 switched-told switched.Done e = other-word e (omega arith)
 switched-told (switched.Refused refusal) e = record { refusal = refusal; number = refl; refused = refl }
 
-ticked-told : (answer : Ticked) → tickedAnswer answer .word ≡ 4 → Told taken (tickedAnswer answer)
+ticked-told : (answer : Ticked) → tickedAnswer answer .word ≡ 4 → Told unrefused (tickedAnswer answer)
 ticked-told ticked.Off e = other-word e (omega arith)
 ticked-told ticked.Done e = other-word e (omega arith)
 

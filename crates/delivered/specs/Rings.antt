@@ -1,11 +1,8 @@
 -- Demand 3 of the exported calls: the boxes of a ring, each changed by its own calls alone, go through just the states of the ring of full
 -- stations, so that all that is proved of it holds of them. Assumes nothing.
-use mathlib.Core.Path.{_≡_, refl, ap, ap₂, sym, subst, _∙_}
-use mathlib.Core.List.{List, [], _∷_, _++_, head-eq-of-cons-eq, tail-eq-of-cons-eq}
-use Prim.Native.Nat.{ℕ}
+use Rattle.laws.specs.Usual.{_≡_, refl, sym, ap, ap₂, subst, _∙_, List, [], _∷_, _++_, ℕ, arith, take}
+use mathlib.Core.List.{head-eq-of-cons-eq, tail-eq-of-cons-eq}
 use native.Mathlib.Decide.{ℕ-discrete}
-use native.Mathlib.Omega.{arith}
-use lib.ListN.{take}
 use borrow.Author.Tests.{eq-eqb, ne-eqb}
 use Rattle.boundary_answers.specs.Numbers.{askedAnswer}
 use Rattle.boundary_answers.specs.declared.Answer.{Answer}

@@ -1,8 +1,6 @@
 -- Paper 01, "Frame fields used": "Codes handled (document 003, B-9): 65000 cyclic with token, 65001 cyclic without, 65002 participation
 -- request, 65012 trigger."
-use Prim.Native.Nat.{ℕ}
-use mathlib.Core.Bool.{Bool, true, false, cond}
-use lib.Dec.{eqb}
+use Rattle.laws.specs.Usual.{Bool, true, false, cond, ℕ, eqb}
 use Rattle.frame.specs.declared.Code.{Code}
 use Rattle.frame.specs.declared.Code.the-variants.{Token, Cyclic, Request, Trigger}
 use Rattle.frame.specs.declared.Coded.{Coded}

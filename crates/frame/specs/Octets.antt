@@ -1,7 +1,5 @@
 -- Clause 8.3 of JEM 1479: the header of every frame is big endian, the most significant octet first.
-use Prim.Native.Nat.{ℕ, _+_, _*_}
-use mathlib.Core.List.{List}
-use lib.ListN.{getD}
+use Rattle.laws.specs.Usual.{List, ℕ, _+_, _*_, getD}
 
 abbrev pub octetAt : List ℕ → ℕ → ℕ
 octetAt s at = getD s at 0

@@ -1,8 +1,6 @@
 -- Paper 01, "Numbers the station answers with": the number of each refusal, and the order in which they are asked. A refusal that a change
 -- request adds gets the next number and a clause of its own here, and a row in the order.
-use mathlib.Core.Path.{_≡_, refl}
-use mathlib.Core.List.{List, [], _∷_, map}
-use Prim.Native.Nat.{ℕ}
+use Rattle.laws.specs.Usual.{_≡_, refl, List, [], _∷_, map, ℕ}
 use Rattle.frame.specs.declared.Refusal.{Refusal}
 use Rattle.frame.specs.declared.Refusal.the-variants.{Cut, Mark, Length, Code, Address, Taken, Area, Block, Stranger, NotDue, Buffer}
 

@@ -2,8 +2,7 @@
 use frame::Fields;
 use frame::Refusal;
 use frame_reading::Read;
-ghost use mathlib.Core.Path.{_≡_};
-ghost use Prim.Native.Nat.{_-_};
+ghost use Rattle.laws.specs.Usual.{_≡_, _-_};
 ghost use Rattle.frame_reading.specs.Reading.{ranged, blocked, readBodyOf, readOf, dataSize, dataOf};
 
 fn is_ranged(fields: Fields) -> bool

@@ -1,9 +1,5 @@
 -- Paper 01, "Frame fields used" and "Numbers the station answers with": reading a frame.
-use Prim.Native.Nat.{ℕ, _-_}
-use mathlib.Core.Bool.{Bool, true, false, cond, not, _&&_, _||_}
-use mathlib.Core.List.{List}
-use lib.Dec.{leb, eqb}
-use lib.ListN.{length, drop}
+use Rattle.laws.specs.Usual.{Bool, true, false, cond, not, _&&_, _||_, List, ℕ, _-_, length, drop, eqb, leb}
 use Rattle.area.specs.Areas.{inRange}
 use Rattle.block.specs.Blocks.{blocksOf, lengthOf}
 use Rattle.frame.specs.Codes.{codeOf, isKnown, codeFrom, isToken, isCyclic, carriesAreas}

@@ -11,9 +11,7 @@ use frame::Refusal;
 use octets::long_at;
 use octets::word_at;
 use units::Milliseconds;
-ghost use mathlib.Core.Path.{_≡_};
-ghost use Prim.Native.Nat.{_≤_};
-ghost use lib.ListN.{length};
+ghost use Rattle.laws.specs.Usual.{_≡_, _≤_, length};
 ghost use Rattle.frame_reading.specs.Reading.{marked, fieldsOf, isStation, addressed, readHeaderOf};
 
 pub enum Read {

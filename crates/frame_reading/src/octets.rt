@@ -1,7 +1,5 @@
 // Numbers of one, two and four octets, the most significant first (clause 8.3).
-ghost use mathlib.Core.Path.{_≡_};
-ghost use Prim.Native.Nat.{_+_, _*_, _<_};
-ghost use lib.ListN.{length};
+ghost use Rattle.laws.specs.Usual.{_≡_, _+_, _*_, _<_, length};
 ghost use Rattle.frame.specs.Octets.{wordAt, longAt};
 
 fn join(high: u8, low: u8) -> u16

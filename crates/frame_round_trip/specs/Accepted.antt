@@ -1,10 +1,5 @@
 -- A list of octets is read as fields just where it passes every test, and the fields are those that stand in it. Assumes nothing.
-use mathlib.Core.Path.{_≡_, refl, ap, sym, _∙_}
-use mathlib.Core.Bool.{Bool, true, false, not, _||_, false≢true}
-use mathlib.Core.List.{List}
-use Prim.Native.Nat.{ℕ}
-use native.Mathlib.Omega.{arith}
-use lib.ListN.{length}
+use Rattle.laws.specs.Usual.{_≡_, refl, sym, ap, _∙_, Bool, true, false, not, _||_, false≢true, List, ℕ, arith, length}
 use Rattle.frame.specs.Codes.{codeOf, isKnown, codeFrom, isCyclic}
 use Rattle.frame.specs.Octets.{wordAt}
 use Rattle.frame.specs.Positions.{TCD}

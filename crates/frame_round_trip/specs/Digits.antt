@@ -1,7 +1,5 @@
 -- Numbers and their octets. Assumes nothing.
-use mathlib.Core.Path.{_≡_}
-use Prim.Native.Nat.{ℕ, _+_, _*_, _/_, _%_, _<_}
-use native.Mathlib.Omega.{arith}
+use Rattle.laws.specs.Usual.{_≡_, ℕ, _+_, _*_, _/_, _%_, _<_, arith}
 
 -- two octets make the number again, and so do four
 pub word-back : (n : ℕ) → n / 256 * 256 + n % 256 ≡ n

@@ -1,8 +1,6 @@
 -- Where the fields that the paper names stand in a frame, octet by octet, and what stands at the other places and where a code fixes it.
-use Prim.Native.Nat.{ℕ, zero, suc, _+_}
-use mathlib.Core.Bool.{Bool, false, cond, _||_}
-use mathlib.Core.List.{List, [], _∷_, _++_, map}
-use lib.Dec.{eqb}
+use Rattle.laws.specs.Usual.{Bool, false, cond, _||_, List, [], _∷_, _++_, map, ℕ, suc, _+_, eqb}
+use Prim.Native.Nat.{zero}
 use Rattle.frame.specs.Octets.{octetAt}
 use Rattle.frame.specs.Positions.{TFL, SNA, DNA, TCD, C-AD1, C-SZ1, C-AD2, C-SZ2, CBN, TBN, BSIZE, TW}
 use Rattle.frame.specs.declared.Code.{Code}

@@ -1,10 +1,5 @@
 -- What is written reads back to the same fields and the same data. Assumes nothing.
-use mathlib.Core.Path.{_≡_, refl, ap, sym, _∙_}
-use mathlib.Core.Bool.{Bool, true, false, cond, not, _&&_, _||_}
-use mathlib.Core.List.{List, _++_}
-use Prim.Native.Nat.{ℕ, _+_, _-_, _≤_}
-use native.Mathlib.Omega.{arith}
-use lib.ListN.{length, take, drop}
+use Rattle.laws.specs.Usual.{_≡_, refl, sym, ap, _∙_, Bool, true, false, cond, not, _&&_, _||_, List, _++_, ℕ, _+_, _-_, _≤_, arith, length, take, drop}
 use lib.Seq.{drop-at}
 use borrow.Author.Tests.{le-leb, eq-eqb}
 use Rattle.area.specs.Areas.{inRange}

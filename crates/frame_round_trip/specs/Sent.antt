@@ -1,7 +1,5 @@
 -- The fields of the frames that a station sends.
-use Prim.Native.Nat.{ℕ, _+_}
-use mathlib.Core.Bool.{cond}
-use lib.Dec.{eqb}
+use Rattle.laws.specs.Usual.{cond, ℕ, _+_, eqb}
 use Rattle.block.specs.Blocks.{blocksOf, lengthOf}
 use Rattle.area.specs.declared.Areas.{Areas}
 use Rattle.frame.specs.Positions.{headerLength}

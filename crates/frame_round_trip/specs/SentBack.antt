@@ -1,11 +1,6 @@
 -- Every frame that a station sends reads back to just the fields that were meant. Assumes nothing.
-use mathlib.Core.Path.{_≡_, refl, ap, _∙_}
-use mathlib.Core.Bool.{Bool, true, false, cond, false≢true}
-use mathlib.Core.List.{List, []}
-use Prim.Native.Nat.{ℕ, _+_, _≤_}
+use Rattle.laws.specs.Usual.{_≡_, refl, ap, _∙_, Bool, true, false, cond, false≢true, List, [], ℕ, _+_, _≤_, length, eqb}
 use native.Mathlib.Nat.{le-refl}
-use lib.Dec.{eqb}
-use lib.ListN.{length}
 use Rattle.area.specs.Areas.{inRange}
 use Rattle.block.specs.Blocks.{blocksOf, lengthOf}
 use Rattle.area.specs.declared.Areas.{Areas}

@@ -1,10 +1,5 @@
 -- What each test of the reading shows of the fields. Assumes nothing.
-use mathlib.Core.Path.{_≡_, refl}
-use mathlib.Core.Bool.{Bool, true, not, _&&_, _||_, false≢true}
-use mathlib.Core.List.{List}
-use Prim.Native.Nat.{ℕ, _-_, _≤_}
-use lib.Dec.{eqb, leb}
-use lib.ListN.{length}
+use Rattle.laws.specs.Usual.{_≡_, refl, Bool, true, not, _&&_, _||_, false≢true, List, ℕ, _-_, _≤_, length, eqb, leb}
 use borrow.Author.Tests.{leb-true, eqb-true}
 use Rattle.laws.specs.Tests.{first, second, implied}
 use Rattle.area.specs.Areas.{inRange}

@@ -1,7 +1,5 @@
 -- A bound on the octets of a frame that is written. Assumes nothing.
-use Prim.Native.Nat.{ℕ, _≤_}
-use mathlib.Core.Bool.{Bool, true, false, cond}
-use native.Mathlib.Omega.{arith}
+use Rattle.laws.specs.Usual.{Bool, true, false, cond, ℕ, _≤_, arith}
 use native.Mathlib.Nat.{le-refl}
 use Rattle.frame.specs.Codes.{isCyclic}
 use Rattle.frame.specs.declared.Fields.{Fields}

@@ -1,8 +1,6 @@
 -- The lengths of what is written. Assumes nothing.
-use mathlib.Core.Path.{_≡_, refl}
-use mathlib.Core.List.{List}
-use Prim.Native.Nat.{ℕ, _≤_}
-use lib.ListN.{length, length-append, take}
+use Rattle.laws.specs.Usual.{_≡_, refl, List, ℕ, _≤_, length, take}
+use lib.ListN.{length-append}
 use lib.Seq.{length-take-le}
 use Rattle.frame.specs.declared.Fields.{Fields}
 use Rattle.frame_reading.specs.Reading.{dataSize}

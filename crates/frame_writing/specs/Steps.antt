@@ -1,8 +1,5 @@
 -- A frame written in two steps: its header in front, then its data right behind. Assumes nothing.
-use mathlib.Core.Path.{_≡_, _∙_, ap, ap₂, sym}
-use mathlib.Core.List.{List, _++_}
-use Prim.Native.Nat.{ℕ, _+_, _≤_}
-use lib.ListN.{length, take, drop}
+use Rattle.laws.specs.Usual.{_≡_, sym, ap, ap₂, _∙_, List, _++_, ℕ, _+_, _≤_, length, take, drop}
 use lib.Seq.{length-take-le}
 use borrow.Author.Tests.{le-leb}
 use Rattle.copying.specs.Laws.{paste-both}

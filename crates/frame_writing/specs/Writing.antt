@@ -1,10 +1,6 @@
 -- Paper 01, "Frame fields used": writing a frame. "We write 64-octet headers. .. A field that no rule here sets, and the destination outside
 -- code 65000, gets the value that clause 10.1 fixes for that frame, else 0."
-use Prim.Native.Nat.{ℕ, _+_, _/_, _%_}
-use mathlib.Core.Bool.{Bool, cond, _&&_}
-use mathlib.Core.List.{List, [], _∷_, _++_}
-use lib.Dec.{leb}
-use lib.ListN.{length, take, drop, replicate}
+use Rattle.laws.specs.Usual.{Bool, cond, _&&_, List, [], _∷_, _++_, ℕ, _+_, _/_, _%_, length, take, drop, replicate, leb}
 use Rattle.area.specs.declared.Areas.{Areas}
 use Rattle.units.specs.declared.Milliseconds.{Milliseconds}
 use Rattle.frame.specs.Codes.{codeNumber, isCyclic, carriesAreas}

@@ -1,10 +1,6 @@
 -- What a frame that passed refusals 7 and 8 is known to be. Assumes nothing.
-use mathlib.Core.Path.{_≡_, ap, _∙_, sym}
-use mathlib.Core.Bool.{Bool, true, cond}
-use mathlib.Core.List.{List}
-use Prim.Native.Nat.{ℕ, _+_, _-_, _≤_}
-use native.Mathlib.Omega.{arith}
-use lib.ListN.{length, length-drop}
+use Rattle.laws.specs.Usual.{_≡_, sym, ap, _∙_, Bool, true, cond, List, ℕ, _+_, _-_, _≤_, arith, length}
+use lib.ListN.{length-drop}
 use Rattle.area.specs.Areas.{inRange, memoryOctets}
 use Rattle.block.specs.Blocks.{startOf}
 use Rattle.block.specs.Cut.{within, fits}

@@ -1,8 +1,5 @@
 -- The answer of `outcomeOf` by our number and our view alone: the rest of a station does not matter to it.
-use Prim.Native.Nat.{ℕ}
-use mathlib.Core.Bool.{cond, not}
-use mathlib.Core.Path.{_≡_, refl}
-use lib.Dec.{eqb}
+use Rattle.laws.specs.Usual.{_≡_, refl, cond, not, ℕ, eqb}
 use Rattle.frame.specs.Codes.{isToken}
 use Rattle.station.specs.Rules.Token.{takes, viewHeard, outcomeOf}
 use Rattle.station.specs.Types.{Fields, Station, Data, Token}

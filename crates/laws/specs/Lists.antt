@@ -1,9 +1,7 @@
 -- Laws of lists. Assumes nothing.
-use mathlib.Core.Path.{_≡_, _∙_, sym}
-use mathlib.Core.List.{List, map}
-use Prim.Native.Nat.{ℕ, _-_}
+use Rattle.laws.specs.Usual.{_≡_, sym, _∙_, List, map, ℕ, _-_, length, take, drop}
 use native.Mathlib.Nat.{le-refl}
-use lib.ListN.{length, take, drop, length-drop, length-map}
+use lib.ListN.{length-drop, length-map}
 use lib.Seq.{take-all}
 
 -- the part of a list from a place to its end

@@ -1,8 +1,5 @@
 -- Listing a station (paper 01, "Starting and joining").
-use Prim.Native.Nat.{ℕ, suc}
-use mathlib.Core.Bool.{Bool, true, false, cond, not, _&&_, _||_}
-use mathlib.Core.List.{List, [], _∷_}
-use lib.Dec.{eqb}
+use Rattle.laws.specs.Usual.{Bool, true, false, cond, not, _&&_, _||_, List, [], _∷_, ℕ, suc, eqb}
 use Rattle.area.specs.Overlap.{areasOverlap}
 use Rattle.area.specs.declared.Areas.{Areas}
 use Rattle.units.specs.declared.Milliseconds.{Milliseconds}

@@ -1,11 +1,7 @@
 -- Laws for loops that go over the list by the numbers of its entries. Assumes nothing.
-use mathlib.Core.Path.{_≡_, ap}
-use mathlib.Core.Bool.{true, false, not, _&&_, _||_}
-use mathlib.Core.List.{List, [], _∷_}
-use Prim.Native.Nat.{ℕ, _+_, _≤_, _<_}
+use Rattle.laws.specs.Usual.{_≡_, ap, true, false, not, _&&_, _||_, List, [], _∷_, ℕ, _+_, _<_, _≤_, length, getD, drop, eqb}
 use native.Mathlib.Numerals.{add-one}
-use lib.Dec.{eqb}
-use lib.ListN.{length, getD, drop, drop-of-length-le}
+use lib.ListN.{drop-of-length-le}
 use lib.Seq.{drop-cons}
 use Rattle.area.specs.Overlap.{areasOverlap}
 use Rattle.area.specs.declared.Areas.{Areas}

@@ -1,9 +1,5 @@
 -- The station list (paper 01, "The token view and the watch"): who is in it, next, misses and striking.
-use Prim.Native.Nat.{ℕ, suc, _+_}
-use mathlib.Core.Bool.{Bool, true, false, cond}
-use mathlib.Core.List.{List, [], _∷_}
-use lib.Dec.{ltb, leb}
-use lib.ListN.{getD, set, replicate}
+use Rattle.laws.specs.Usual.{Bool, true, false, cond, List, [], _∷_, ℕ, suc, _+_, getD, set, replicate, leb, ltb}
 use Rattle.settling.specs.Ring.{next}
 use Rattle.members.specs.declared.Entry.{Entry}
 use Rattle.members.specs.declared.Members.{Members}

@@ -5,8 +5,7 @@ use area::areas_overlap;
 use members::Entry;
 use members::Members;
 use units::Milliseconds;
-ghost use mathlib.Core.Path.{_≡_};
-ghost use mathlib.Core.Bool.{cond, _||_};
+ghost use Rattle.laws.specs.Usual.{_≡_, cond, _||_};
 ghost use Rattle.area.specs.Overlap.{areasOverlap};
 ghost use Rattle.members.specs.Listing.{bare, overlapsOther, overlapsListed, listing};
 

@@ -1,12 +1,7 @@
 -- Next and the smallest by searches for the first listed number: above a number, and from the start. Assumes nothing.
-use mathlib.Core.Path.{_≡_, refl, ap, _∙_}
-use mathlib.Core.Bool.{Bool, true, false, cond}
-use mathlib.Core.List.{List, [], _∷_}
-use Prim.Native.Nat.{ℕ, zero, suc, _+_, _<_, min}
-use native.Mathlib.Omega.{arith}
+use Rattle.laws.specs.Usual.{_≡_, refl, ap, _∙_, Bool, true, false, cond, List, [], _∷_, ℕ, suc, _+_, _<_, min, arith, drop, ltb}
+use Prim.Native.Nat.{zero}
 use borrow.Author.Tests.{lt-ltb, le-ltb, ltb-true, ltb-false}
-use lib.Dec.{ltb}
-use lib.ListN.{drop}
 use Rattle.settling.specs.Ring.{firstAbove, next}
 use Rattle.members.specs.Members.{numbersFrom, numbersOf, isEmpty, withOurs, firstOf, smallest, nextAfter}
 use Rattle.members_searching.specs.Search.{firstIn, firstFrom, isNobody, numberOr}

@@ -1,8 +1,5 @@
 -- The search for the first listed number from some number on.
-use Prim.Native.Nat.{ℕ}
-use mathlib.Core.Bool.{Bool, true, false}
-use mathlib.Core.List.{List, [], _∷_}
-use lib.ListN.{drop}
+use Rattle.laws.specs.Usual.{Bool, true, false, List, [], _∷_, ℕ, drop}
 use Rattle.members.specs.Members.{numbersFrom}
 use Rattle.members_searching.specs.declared.Found.{Found}
 use Rattle.members_searching.specs.declared.Found.the-variants.{Number, Nobody}

@@ -1,7 +1,6 @@
 // What is looked up in the list by the order of its numbers.
 use members::Members;
-ghost use mathlib.Core.Path.{_≡_};
-ghost use Prim.Native.Nat.{min};
+ghost use Rattle.laws.specs.Usual.{_≡_, min};
 ghost use Rattle.members.specs.Members.{numbersOf, isEmpty, nextAfter, smallest};
 ghost use Rattle.members_searching.specs.Search.{firstFrom, numberOr};
 

@@ -1,10 +1,6 @@
 -- Misses told of single lists of calls, before anything is proved of all lists, each against numbers that the paper's sentences give. Assumes
 -- nothing.
-use mathlib.Core.Path.{_≡_, refl}
-use mathlib.Core.Bool.{Bool, true, false}
-use mathlib.Core.List.{List, [], _∷_, _++_}
-use Prim.Native.Nat.{ℕ}
-use lib.ListN.{replicate}
+use Rattle.laws.specs.Usual.{_≡_, refl, Bool, true, false, List, [], _∷_, _++_, ℕ, replicate}
 use Rattle.members.specs.Members.{isListed}
 use Rattle.frame_reading.specs.Reading.{fieldsOf, readOf}
 use Rattle.frame_round_trip.specs.Sent.{blockFields, requestFields}

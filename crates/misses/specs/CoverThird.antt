@@ -1,12 +1,8 @@
 -- What demand 3 leaves out of its lists, a third miss running, is said alike by the list that a station carries and by the history. Assumes
 -- nothing.
-use mathlib.Core.Path.{_≡_, refl, sym, ap, subst, _∙_}
-use mathlib.Core.Bool.{Bool, true, false, cond, _&&_, false≢true}
-use mathlib.Core.List.{List, [], _∷_, _++_}
+use Rattle.laws.specs.Usual.{_≡_, refl, sym, ap, subst, _∙_, Bool, true, false, cond, _&&_, false≢true, List, [], _∷_, _++_, ℕ, suc, _≤_, arith, eqb, leb}
 use mathlib.Core.Logic.{_↔_}
-use Prim.Native.Nat.{ℕ, suc, _≤_}
-use native.Mathlib.Omega.{arith}
-use lib.Dec.{eqb, leb, eqb·suc-suc}
+use lib.Dec.{eqb·suc-suc}
 use borrow.Author.Tests.{leb-true, leb-false, eq-eqb, ne-eqb}
 use Rattle.laws.specs.Tests.{both}
 use Rattle.members.specs.Members.{isListed, strikes}

@@ -1,9 +1,6 @@
 -- What every call does to one station's entry. Assumes nothing.
-use mathlib.Core.Path.{_≡_}
-use mathlib.Core.Bool.{Bool, true, false, cond, not, _&&_, false≢true, and-false}
-use mathlib.Core.List.{List, []}
-use Prim.Native.Nat.{ℕ}
-use lib.Dec.{eqb, ltb}
+use Rattle.laws.specs.Usual.{_≡_, Bool, true, false, cond, not, _&&_, false≢true, List, [], ℕ, eqb, ltb}
+use mathlib.Core.Bool.{and-false}
 use Rattle.frame.specs.Codes.{isCyclic}
 use Rattle.frame.specs.declared.Code.the-variants.{Token, Cyclic, Request, Trigger}
 use Rattle.frame.specs.declared.Refusal.the-variants as refusals

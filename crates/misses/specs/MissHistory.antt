@@ -1,16 +1,12 @@
 -- Paper 01, "The token view and the watch": misses, and the third in a row, told from the calls since off, from the frames that were heard, and
 -- from the phase, the rounds, the view and the watch before each call (`WatchHistory` tells when the watch ends from the calls, too). Nothing
 -- here looks at the misses that an entry carries, nor at what strikes it.
-use Prim.Native.Nat.{ℕ, suc}
-use mathlib.Core.Path.{_≡_}
-use mathlib.Core.Bool.{Bool, true, false, cond, _&&_, _||_}
-use mathlib.Core.List.{List, [], _∷_}
-use lib.Dec.{eqb, ltb}
+use Rattle.laws.specs.Usual.{_≡_, Bool, true, false, cond, _&&_, _||_, List, [], _∷_, ℕ, suc, eqb, ltb}
 use Rattle.frame.specs.Codes.{isToken, isCyclic}
 use Rattle.frame.specs.declared.Code.the-variants.{Token, Cyclic, Request, Trigger}
 use Rattle.members.specs.Members.{isListed}
 use Rattle.frame_reading.specs.Reading.{readOf}
-use Rattle.station.specs.Rules.Calls.{Call, start, stop, tick, hear, ask, Verdict, refusedBy, taken, verdict}
+use Rattle.station.specs.Rules.Calls.{Call, start, stop, tick, hear, ask, Verdict, refusedBy, unrefused, verdict}
 use Rattle.station.specs.Panel.History.{Step, stepOf, history, stateAfter, participates, isTick}
 use Rattle.station.specs.Rules.State.{never}
 use Rattle.station.specs.Rules.Ticking.{watchEnds}
@@ -24,7 +20,7 @@ isRequest Trigger = false
 
 abbrev pub isUnrefused : Verdict → Bool
 isUnrefused (refusedBy refusal) = false
-isUnrefused taken = true
+isUnrefused unrefused = true
 
 -- the octets read as a frame that meets a test
 abbrev pub readsAs : (Fields → Bool) → Read → Bool

@@ -1,8 +1,5 @@
 -- An entry's misses are what the history says, and a station is struck exactly at the third. Assumes nothing.
-use mathlib.Core.Path.{_≡_, refl, sym, _∙_}
-use mathlib.Core.Bool.{Bool, true, false, not, _&&_, _||_, false≢true}
-use mathlib.Core.List.{List, [], _∷_}
-use Prim.Native.Nat.{ℕ}
+use Rattle.laws.specs.Usual.{_≡_, refl, sym, _∙_, Bool, true, false, not, _&&_, _||_, false≢true, List, [], _∷_, ℕ}
 use Rattle.laws.specs.Tests.{both}
 use Rattle.members.specs.Members.{entryOf, isListed}
 use Rattle.station.specs.Rules.Calls.{Call, start, stop, tick, hear, ask, after}

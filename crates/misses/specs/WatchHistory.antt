@@ -1,9 +1,6 @@
 -- Paper 01, "The token view and the watch": our watch, told from the calls since off, the phase before each and the frames that were heard.
 -- Nothing here looks at the count of ticks that the state carries.
-use Prim.Native.Nat.{ℕ, suc, _*_}
-use mathlib.Core.Bool.{Bool, false, cond, not, _||_}
-use mathlib.Core.List.{List, [], _∷_}
-use lib.Dec.{leb}
+use Rattle.laws.specs.Usual.{Bool, false, cond, not, _||_, List, [], _∷_, ℕ, suc, _*_, leb}
 use Rattle.frame.specs.Codes.{isCyclic}
 use Rattle.station.specs.Rules.Calls.{Call, start, stop, tick, hear, ask, verdict}
 use Rattle.station.specs.Panel.History.{Step, participates, isTick}

@@ -1,11 +1,6 @@
 -- A participant's watch ends in the tick that the history says. Assumes nothing.
-use mathlib.Core.Path.{_≡_, refl, sym, ap, _∙_}
-use mathlib.Core.Bool.{Bool, true, false, not, _&&_, _||_, false≢true}
-use mathlib.Core.List.{List, [], _∷_}
-use Prim.Native.Nat.{ℕ, suc, _+_}
+use Rattle.laws.specs.Usual.{_≡_, refl, sym, ap, _∙_, Bool, true, false, not, _&&_, _||_, false≢true, List, [], _∷_, ℕ, suc, _+_, arith, leb}
 use native.Mathlib.Numerals.{add-one}
-use native.Mathlib.Omega.{arith}
-use lib.Dec.{leb}
 use borrow.Author.Tests.{leb-false}
 use Rattle.frame.specs.Codes.{isCyclic}
 use Rattle.frame_reading.specs.Reading.{readOf}

@@ -1,10 +1,6 @@
 -- Paper 01, "The panel": "Ticks from one taking of the token to our next, shown in tenths: 63 shows `6.3`, 5 shows `0.5`." "Taking" is the
 -- paper's own term for a step that gives us the token.
-use Prim.Native.Nat.{ℕ, _+_, _-_, _/_, _%_, min}
-use mathlib.Core.Bool.{Bool, cond}
-use mathlib.Core.List.{List, [], _∷_, _++_}
-use lib.Dec.{ltb}
-use lib.ListN.{length, replicate}
+use Rattle.laws.specs.Usual.{Bool, cond, List, [], _∷_, _++_, ℕ, _+_, _-_, _/_, _%_, min, length, replicate, ltb}
 use Rattle.text.specs.Decimal.{decimalOf}
 use Rattle.units.specs.declared.Ticks.{Ticks}
 use Rattle.panel.specs.declared.Figure.{Figure}
@@ -24,8 +20,8 @@ abbrev pub ticked : Panel → Panel
 ticked panel = record { takings = panel .takings; running = record { 0 = counted (panel .running .0) }; gap = panel .gap }
 
 -- a taking ends one gap and starts the next
-abbrev pub taken : Panel → Panel
-taken panel = record { takings = min 2 (panel .takings + 1); running = record { 0 = 0 }; gap = panel .running }
+abbrev pub afterTaking : Panel → Panel
+afterTaking panel = record { takings = min 2 (panel .takings + 1); running = record { 0 = 0 }; gap = panel .running }
 
 -- "above 65,535 ticks `OVER`"
 abbrev pub isOver : Ticks → Bool

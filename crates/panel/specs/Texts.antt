@@ -1,9 +1,5 @@
 -- Laws of the panel's text. Assumes nothing.
-use mathlib.Core.Path.{_≡_, refl}
-use mathlib.Core.List.{List, [], _∷_, _++_}
-use Prim.Native.Nat.{ℕ, _-_, _<_, _≤_}
-use native.Mathlib.Omega.{arith}
-use lib.ListN.{length, take, getD, replicate}
+use Rattle.laws.specs.Usual.{_≡_, refl, List, [], _∷_, _++_, ℕ, _-_, _<_, _≤_, arith, length, getD, take, replicate}
 use lib.Seq.{take-append-seam}
 use Rattle.copying.specs.Pasted.{pasted}
 use Rattle.text.specs.Decimal.{decimalOf}

@@ -1,8 +1,7 @@
 // The front panel's figure: the ticks from one taking of the token to the next.
 use units::Ticks;
-ghost use mathlib.Core.Path.{_≡_};
-ghost use Prim.Native.Nat.{_≤_};
-ghost use Rattle.panel.specs.Panel.{blank, counted, ticked, taken, isOver, figureOf, overText, tenthsText, gapText, inSix, shown};
+ghost use Rattle.laws.specs.Usual.{_≡_, _≤_};
+ghost use Rattle.panel.specs.Panel.{blank, counted, ticked, afterTaking, isOver, figureOf, overText, tenthsText, gapText, inSix, shown};
 
 // The takings since we began to participate (2 stands for more), the ticks since the last one, and the last finished gap.
 #[repr(C)]
@@ -54,7 +53,7 @@ pub fn tick(panel: Panel) -> Panel
 }
 
 pub fn take(panel: Panel) -> Panel
-    ensures { λ r. ⌜ r ≡ taken panel ⌝ }
+    ensures { λ r. ⌜ r ≡ afterTaking panel ⌝ }
 {
     let takings = if panel.takings == 0 { 1 } else { 2 };
     let gap = panel.running;

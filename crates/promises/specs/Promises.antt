@@ -1,13 +1,8 @@
 -- What is promised: each printed statement written out, in the order of docs/PROMISES.md, and proved by the theorem that is named beside it.
 -- The definitions that the statements are made of are the rules themselves, which the contracts of the calls cite. Words in quotes are the
 -- request's and paper 01's.
-use mathlib.Core.Path.{_≡_, refl}
-use mathlib.Core.Bool.{true, false, cond, not, _&&_, _||_, false≢true}
+use Rattle.laws.specs.Usual.{_≡_, refl, true, false, cond, not, _&&_, _||_, false≢true, List, [], _∷_, _++_, ℕ, _+_, _-_, _*_, _<_, _≤_, length, getD, take, eqb}
 use mathlib.Core.Logic.{_⊎_, inl, inr}
-use mathlib.Core.List.{List, [], _∷_, _++_}
-use Prim.Native.Nat.{ℕ, _+_, _-_, _*_, _≤_, _<_}
-use lib.Dec.{eqb}
-use lib.ListN.{length, getD, take}
 use Rattle.area.specs.Areas.{inArea, inRange}
 use Rattle.area.specs.Overlap.{partsOverlap, areasOverlap}
 use Rattle.area.specs.Within.{Inside, inside}
@@ -61,7 +56,7 @@ use Rattle.station.specs.Rules.Answers.{dataOf}
 use Rattle.station.specs.States.Disjoint.{Apart}
 use Rattle.station.specs.Frames.FrameAccepted.{frame-asked, frame-accepted}
 use Rattle.station.specs.Rules.Asking.{askOf, dueFields}
-use Rattle.station.specs.Rules.Calls.{Call, hear, after, lent, lentAfter, refusedBy, taken, verdict}
+use Rattle.station.specs.Rules.Calls.{Call, hear, after, lent, lentAfter, refusedBy, unrefused, verdict}
 use Rattle.station.specs.Memory.Gathers.{Parts}
 use Rattle.station.specs.Rules.Hearing.{hearOf, knows, lentRight}
 use Rattle.station.specs.Panel.History.{stepOf, stateAfter, history, participates, takings, lastGap}
@@ -316,7 +311,7 @@ pub frames-accepted : (station : Station) → Reachable station → (memory turn
     → (isCyclic (dueFields (station .phase) station .code) ≡ true → knows listener (dueFields (station .phase) station .source) ≡ true)
     → (isToken (dueFields (station .phase) station .code) ≡ true → knows listener (dueFields (station .phase) station .destination) ≡ true)
     → (common assembly : List ℕ) → lentRight common assembly ≡ true
-    → verdict listener (hear (take count (askOf station memory turn output .output)) common assembly) ≡ taken
+    → verdict listener (hear (take count (askOf station memory turn output .output)) common assembly) ≡ unrefused
 frames-accepted station reached memory turn output count e listener inside other source destination =
     frame-accepted station reached memory turn output count e listener
     (record { participates = inside; other = other; source = source; destination = destination })

@@ -1,11 +1,7 @@
 -- Paper 01, "Numbers the station answers with": for each number, the calls and states to which it applies. Each definition says when its own
 -- condition holds, whatever the other numbers say of the same call. Which one is answered where several apply is the table `order` of
 -- crates/frame/specs/Refusals.antt. A refusal that a change request adds gets a definition of its own here, and a clause of `applies`.
-use Prim.Native.Nat.{ℕ, _-_}
-use mathlib.Core.Bool.{Bool, false, cond, not, _&&_, _||_}
-use mathlib.Core.List.{List, [], _∷_}
-use lib.Dec.{eqb, ltb}
-use lib.ListN.{length}
+use Rattle.laws.specs.Usual.{Bool, false, cond, not, _&&_, _||_, List, [], _∷_, ℕ, _-_, length, eqb, ltb}
 use Rattle.area.specs.Areas.{inRange, memoryOctets}
 use Rattle.block.specs.Blocks.{blocksOf, lengthOf}
 use Rattle.frame.specs.Codes.{codeOf, isKnown, isToken, isCyclic, carriesAreas}
@@ -15,7 +11,7 @@ use Rattle.frame.specs.Refusals.{order}
 use Rattle.frame.specs.declared.Refusal.the-variants.{Cut, Mark, Length, Code, Address, Taken, Area, Block, Stranger, NotDue, Buffer}
 use Rattle.frame_reading.specs.Reading.{marked, codeIn, fieldsOf, isStation}
 use Rattle.station.specs.Rules.Asking.{dueIn}
-use Rattle.station.specs.Rules.Calls.{Call, start, stop, tick, hear, ask, Verdict, refusedBy, taken}
+use Rattle.station.specs.Rules.Calls.{Call, start, stop, tick, hear, ask, Verdict, refusedBy, unrefused}
 use Rattle.station.specs.Rules.Hearing.{knows}
 use Rattle.station.specs.Rules.State.{isOff, isParticipating}
 use Rattle.station.specs.Types.{Fields, Refusal, Station}
@@ -136,7 +132,7 @@ applies Buffer = bufferApplies
 
 -- the first of some refusals that meets a test; where none does, the call is not refused
 abbrev pub firstOf : (Refusal → Bool) → List Refusal → Verdict
-firstOf test [] = taken
+firstOf test [] = unrefused
 firstOf test (refusal ∷ later) = cond (test refusal) (refusedBy refusal) (firstOf test later)
 
 -- "Order: .., the first that applies."

@@ -1,8 +1,5 @@
 -- Calls to which one number applies, or several, or none, each worked out by the rules and by the table. Assumes nothing.
-use mathlib.Core.Path.{_≡_, refl}
-use mathlib.Core.List.{List, [], _∷_, map}
-use Prim.Native.Nat.{ℕ}
-use lib.ListN.{replicate, set}
+use Rattle.laws.specs.Usual.{_≡_, refl, List, [], _∷_, map, ℕ, set, replicate}
 use Rattle.area.specs.Areas.{memoryOctets}
 use Rattle.frame.specs.Positions.{TFL, TCD, C-SZ1, TBN}
 use Rattle.frame.specs.Refusals.{numberOf}
@@ -10,7 +7,7 @@ use Rattle.members.specs.Listing.{listing}
 use Rattle.members.specs.Members.{noMembers}
 use Rattle.frame_reading.specs.Reading.{fieldsOf}
 use Rattle.frame_round_trip.specs.Sent.{blockFields, requestFields, triggerFields}
-use Rattle.station.specs.Rules.Calls.{Call, start, stop, tick, hear, ask, Verdict, refusedBy, taken, verdict, after}
+use Rattle.station.specs.Rules.Calls.{Call, start, stop, tick, hear, ask, Verdict, refusedBy, unrefused, verdict, after}
 use Rattle.station.specs.Rules.State.{fresh, stopped, begun}
 use Rattle.station.specs.Types.{Milliseconds, Areas, Settings, Listening, Station}
 use Rattle.frame_writing.specs.Writing.{noAreas, frameOf, headerOf, frontOf, backOf, fixedFor}
@@ -18,7 +15,7 @@ use Rattle.refusals.specs.Applies.{firstApplying}
 
 -- the number that a call is answered with, 0 where it is not refused
 abbrev pub numberIn : Verdict → ℕ
-numberIn taken = 0
+numberIn unrefused = 0
 numberIn (refusedBy refusal) = numberOf refusal
 
 abbrev watch : Milliseconds

@@ -1,17 +1,14 @@
 -- "Order: 11, 10, 1, 2, 3, 4, 5, 6, 7, 8, 9, the first that applies": what every call answers, as far as it is a refusal. Assumes nothing.
-use mathlib.Core.Path.{_≡_, refl, ap, sym, _∙_}
-use mathlib.Core.Bool.{Bool, true, false, cond, not, _&&_, _||_}
-use mathlib.Core.List.{List}
-use Prim.Native.Nat.{ℕ, zero, suc}
-use lib.Dec.{leb, ltb, eqb, leb·zero, leb·suc-suc, eqb·suc-zero}
-use lib.ListN.{length}
+use Rattle.laws.specs.Usual.{_≡_, refl, sym, ap, _∙_, Bool, true, false, cond, not, _&&_, _||_, List, ℕ, suc, length, eqb, leb, ltb}
+use Prim.Native.Nat.{zero}
+use lib.Dec.{leb·zero, leb·suc-suc, eqb·suc-zero}
 use borrow.Author.Tests.{leb-true, leb-false, lt-ltb, le-ltb}
 use Rattle.frame.specs.declared.Refusal.the-variants as refusals
 use Rattle.frame_reading.specs.Reading as reading
 use Rattle.station.specs.Rules.Asking.{Asking}
-use Rattle.station.specs.Rules.Calls.{Call, start, stop, tick, hear, ask, Verdict, refusedBy, taken, verdict, switchedVerdict, heardVerdict, askedVerdict}
+use Rattle.station.specs.Rules.Calls.{Call, start, stop, tick, hear, ask, Verdict, refusedBy, unrefused, verdict, switchedVerdict, heardVerdict, askedVerdict}
 use Rattle.station.specs.Rules.Hearing.{Hearing, lentRight, isTaken, isStranger, bodyHeard, headerHeard}
-use Rattle.station.specs.RefusedLeft.{accepted-taken}
+use Rattle.station.specs.RefusedLeft.{accepted-unrefused}
 use Rattle.station.specs.Rules.Starting.{Switching, need}
 use Rattle.station.specs.Types.{Refusal, Read, Frame, Refused, Station}
 use Rattle.refusals.specs.Applies.{firstApplying}
@@ -62,7 +59,7 @@ heard-choice false one other = refl
 module _ (station : Station) where
   bodyVerdict : Read → Verdict
   bodyVerdict (Refused refusal) = refusedBy refusal
-  bodyVerdict (Frame frame) = cond (isStranger station frame) (refusedBy refusals.Stranger) taken
+  bodyVerdict (Frame frame) = cond (isStranger station frame) (refusedBy refusals.Stranger) unrefused
 
   headerVerdict : ℕ → Read → Verdict
   headerVerdict given (Refused refusal) = refusedBy refusal
@@ -87,7 +84,7 @@ module _ (station : Station) (octets memory assembly : List ℕ) where
   body-verdict (Refused refusal) = refl
   body-verdict (Frame frame) =
       heard-choice (isStranger station frame) _ _
-      ∙ ap (cond (isStranger station frame) (refusedBy refusals.Stranger)) (accepted-taken station frame octets memory assembly)
+      ∙ ap (cond (isStranger station frame) (refusedBy refusals.Stranger)) (accepted-unrefused station frame octets memory assembly)
 
   header-verdict : (read : Read) → heardVerdict (headerHeard station octets memory assembly read .answer) ≡ headerVerdict station (length octets) read
   unfolding headerVerdict

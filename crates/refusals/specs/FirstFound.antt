@@ -1,11 +1,8 @@
 -- `first-applies`, told as statements about the order itself: which refusals stand before the one that is answered. Assumes nothing.
-use mathlib.Core.Path.{_≡_, refl, ap, sym, _∙_}
-use mathlib.Core.Bool.{Bool, true, false, cond}
-use mathlib.Core.List.{List, [], _∷_, _++_, List·Memᴰ, List·Memᴰ·head, List·Memᴰ·tail}
-use Prim.Native.Nat.{ℕ}
-use native.Mathlib.Omega.{arith}
+use Rattle.laws.specs.Usual.{_≡_, refl, sym, ap, _∙_, Bool, true, false, cond, List, [], _∷_, _++_, ℕ, arith}
+use mathlib.Core.List.{List·Memᴰ, List·Memᴰ·head, List·Memᴰ·tail}
 use Rattle.frame.specs.Refusals.{order}
-use Rattle.station.specs.Rules.Calls.{Call, refusedBy, taken, verdict}
+use Rattle.station.specs.Rules.Calls.{Call, refusedBy, unrefused, verdict}
 use Rattle.station.specs.Types.{Refusal, Station}
 use Rattle.refusals.specs.Applies.{applies, firstOf}
 use Rattle.refusals.specs.FirstApplies.{first-applies}
@@ -52,11 +49,11 @@ module _ (test : Refusal → Bool) where
             itself = first .itself;
           }
 
-  found-none : (list : List Refusal) → firstOf test list ≡ taken → None test list
+  found-none : (list : List Refusal) → firstOf test list ≡ unrefused → None test list
   found-none [] e = λ refusal m. elim m [ ]
   found-none (head ∷ list) e = by (test head) refl e (found-none list)
     where
-      by : (t : Bool) → test head ≡ t → cond t (refusedBy head) (firstOf test list) ≡ taken → (firstOf test list ≡ taken → None test list)
+      by : (t : Bool) → test head ≡ t → cond t (refusedBy head) (firstOf test list) ≡ unrefused → (firstOf test list ≡ unrefused → None test list)
           → None test (head ∷ list)
       by true p e rest = let z : _≡_ {A = ℕ} 0 1 = cc in absurd (omega arith)
       by false p e rest = none-more head list p (rest e)
@@ -84,9 +81,9 @@ module _ (station : Station) (call : Call) where
       ∙ rw (first .itself)
 
   -- To a call that is not refused none applies,
-  pub unrefused-none : verdict station call ≡ taken → None test order
+  pub unrefused-none : verdict station call ≡ unrefused → None test order
   unrefused-none e = found-none test order (sym (first-applies station call) ∙ e)
 
   -- and a call to which none applies is not refused.
-  pub none-unrefused : None test order → verdict station call ≡ taken
+  pub none-unrefused : None test order → verdict station call ≡ unrefused
   none-unrefused none = first-applies station call ∙ passed-over test order [] none

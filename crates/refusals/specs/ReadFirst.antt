@@ -1,15 +1,11 @@
 -- A frame that is read and that no station hears, as `decode` reads one, is refused by the same table. Assumes nothing.
-use mathlib.Core.Path.{_≡_, refl}
-use mathlib.Core.Bool.{Bool, true, false, cond}
-use mathlib.Core.List.{List}
-use Prim.Native.Nat.{ℕ}
-use lib.ListN.{replicate}
+use Rattle.laws.specs.Usual.{_≡_, refl, Bool, true, false, cond, List, ℕ, replicate}
 use Rattle.area.specs.Areas.{memoryOctets}
 use Rattle.frame.specs.Refusals.{order}
 use Rattle.frame.specs.declared.Refusal.the-variants as refusals
 use Rattle.frame_reading.specs.Reading.{need, andThen, readOf}
 use Rattle.station.specs.Types.{Fields, Refusal, Read, Frame, Refused}
-use Rattle.station.specs.Rules.Calls.{hear, Verdict, refusedBy, taken}
+use Rattle.station.specs.Rules.Calls.{hear, Verdict, refusedBy, unrefused}
 use Rattle.station.specs.Rules.State.{never}
 use Rattle.refusals.specs.Applies.{frameIn, applies, firstOf}
 use Rattle.refusals.specs.FirstApplies.{by-not, by-and, by-or, fewer}
@@ -29,7 +25,7 @@ only-frames octets = (refl, refl, refl, refl)
 
 -- a verdict as what is read: the fields as they stand in the octets, or the refusal
 abbrev pub readBy : Fields → Verdict → Read
-readBy frame taken = Frame frame
+readBy frame unrefused = Frame frame
 readBy frame (refusedBy refusal) = Refused refusal
 
 by-choice : (frame : Fields) (test : Bool) (one other : Verdict)

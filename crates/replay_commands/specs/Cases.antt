@@ -1,6 +1,5 @@
 -- Lines and what they mean. Assumes nothing.
-use mathlib.Core.Path.{_≡_, refl}
-use mathlib.Core.List.{[], _∷_}
+use Rattle.laws.specs.Usual.{_≡_, refl, [], _∷_}
 use Rattle.replay_commands.specs.Commands.{commandOf}
 use Rattle.replay_commands.specs.declared.Command.the-variants.{Start, Tick, Hear, Poke, Peek, Bad}
 

@@ -1,9 +1,5 @@
 -- What a line means: the table of commands. Words in quotes are the table's.
-use Prim.Native.Nat.{ℕ, _+_}
-use mathlib.Core.Bool.{cond, _&&_}
-use mathlib.Core.List.{List, [], _∷_}
-use lib.Dec.{leb, ltb}
-use lib.ListN.{length, getD, take, drop}
+use Rattle.laws.specs.Usual.{cond, _&&_, List, [], _∷_, ℕ, _+_, length, getD, take, drop, leb, ltb}
 use Rattle.replay_input.specs.Gathering.{longest, sizeIn}
 use Rattle.replay_input.specs.declared.Line.{Line}
 use Rattle.text.specs.Lines.{space}

@@ -1,11 +1,7 @@
 -- What is kept of a `hear` line, whatever its length, spells the first of its octets. Assumes nothing.
-use mathlib.Core.Path.{_≡_, ap, sym, _∙_}
-use mathlib.Core.Bool.{Bool, cond}
-use mathlib.Core.List.{List, []}
-use Prim.Native.Nat.{ℕ, _+_, _*_, _≤_}
+use Rattle.laws.specs.Usual.{_≡_, sym, ap, _∙_, Bool, cond, List, [], ℕ, _+_, _*_, _≤_, arith, length, take, drop}
 use native.Mathlib.Decide.{decLe}
-use native.Mathlib.Omega.{arith}
-use lib.ListN.{length, take, drop, length-take, length-drop, drop-of-length-le}
+use lib.ListN.{length-take, length-drop, drop-of-length-le}
 use lib.Seq.{take-all, take-take, take-add, drop-at, length-take-le}
 use borrow.Author.Tests.{le-leb, lt-leb}
 use Rattle.replay_input.specs.Gathering.{longest, fresh, bufferAll}

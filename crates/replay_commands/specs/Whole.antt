@@ -1,13 +1,11 @@
 -- A line that came octet by octet, into a buffer of 34,823 octets, means what the whole line means, whatever its length. Assumes nothing.
-use mathlib.Core.Path.{_≡_, refl, ap, ap₂, sym, _∙_}
-use mathlib.Core.Bool.{Bool, true, false, cond, not, _&&_, Bool·not-not}
-use mathlib.Core.List.{List, [], _∷_, _++_, append-nil, append-assoc}
-use Prim.Native.Nat.{ℕ, zero, suc, _+_, _-_, _/_, _%_, _≤_, _<_}
+use Rattle.laws.specs.Usual.{_≡_, refl, sym, ap, ap₂, _∙_, Bool, true, false, cond, not, _&&_, List, [], _∷_, _++_, ℕ, suc, _+_, _-_, _/_, _%_, _<_, _≤_, arith, length, take, drop, set, eqb, leb, ltb}
+use mathlib.Core.Bool.{Bool·not-not}
+use mathlib.Core.List.{append-nil, append-assoc}
+use Prim.Native.Nat.{zero}
 use native.Mathlib.Decide.{decLe, decLt}
 use native.Mathlib.Numerals.{add-one}
-use native.Mathlib.Omega.{arith}
-use lib.Dec.{eqb, leb, ltb}
-use lib.ListN.{length, set, take, drop, length-append, length-drop, length-set, drop-of-length-le}
+use lib.ListN.{length-append, length-drop, length-set, drop-of-length-le}
 use lib.Seq.{take-nil, take-all, take-append-le, drop-append-le, take-suc-set, set-out}
 use borrow.Author.Tests.{lt-ltb, le-ltb, lt-leb, le-leb, eq-eqb, ne-eqb}
 use Rattle.replay_input.specs.Gathering.{longest, fresh, countAfter, pushed, sizeIn, pushedAll, bufferAll}

@@ -1,8 +1,5 @@
 -- What is answered where the input ends.
-use Prim.Native.Nat.{ℕ}
-use mathlib.Core.Bool.{cond}
-use mathlib.Core.List.{List, []}
-use lib.Dec.{ltb}
+use Rattle.laws.specs.Usual.{cond, List, [], ℕ, ltb}
 use Rattle.replay_input.specs.declared.Line.{Line}
 use Rattle.replay_reply_words.specs.Answers.{badText}
 

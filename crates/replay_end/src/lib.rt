@@ -1,7 +1,6 @@
 // What is answered where the input of the program `replay` ends.
 use replay_input::Line;
-ghost use mathlib.Core.Path.{_≡_};
-ghost use lib.ListN.{length};
+ghost use Rattle.laws.specs.Usual.{_≡_, length};
 ghost use Rattle.copying.specs.Pasted.{pasted};
 ghost use Rattle.replay_end.specs.End.{answerToRest};
 

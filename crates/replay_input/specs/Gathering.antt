@@ -1,9 +1,5 @@
 -- A line that comes octet by octet, into a buffer of limited length.
-use Prim.Native.Nat.{ℕ, _+_, _-_, _/_}
-use mathlib.Core.Bool.{Bool, true, false, cond, not, _&&_}
-use mathlib.Core.List.{List}
-use lib.Dec.{leb, ltb}
-use lib.ListN.{set}
+use Rattle.laws.specs.Usual.{Bool, true, false, cond, not, _&&_, List, ℕ, _+_, _-_, _/_, set, leb, ltb}
 use Rattle.text_hexadecimal.specs.Octets.{isHexadecimal}
 use Rattle.text_scanning.specs.Scanning.{pushAll, storeAll, scanOf, bufferOf}
 use Rattle.replay_input.specs.declared.Line.{Line}

@@ -1,8 +1,7 @@
 // A line of the program `replay`'s input. It comes octet by octet, so that a line of any length needs no more memory than the longest command
 // that is not a `hear`.
 use text_hexadecimal::is_hexadecimal;
-ghost use mathlib.Core.Path.{_≡_};
-ghost use lib.ListN.{set, drop};
+ghost use Rattle.laws.specs.Usual.{_≡_, drop, set};
 ghost use Rattle.replay_input.specs.Gathering.{fresh, countAfter, pushed, scanned, bufferScanned, sizeIn};
 
 // A line so far: the number of its octets, at most 34,824, of which the first 34,823 are stored at the front of the buffer; whether all

@@ -1,12 +1,7 @@
 -- What an input does: each of its lines does what the whole line means, in their order, and a last line without its line feed is `bad` and
 -- does nothing. Assumes nothing.
-use mathlib.Core.Path.{_≡_, refl, ap, ap₂, _∙_}
-use mathlib.Core.Bool.{Bool, true, false, cond, not, _&&_}
-use mathlib.Core.List.{List, [], _∷_, _++_}
-use Prim.Native.Nat.{ℕ, _+_, _<_}
-use native.Mathlib.Omega.{arith}
-use lib.Dec.{leb, ltb}
-use lib.ListN.{length, set, length-set}
+use Rattle.laws.specs.Usual.{_≡_, refl, ap, ap₂, _∙_, Bool, true, false, cond, not, _&&_, List, [], _∷_, _++_, ℕ, _+_, _<_, arith, length, set, leb, ltb}
+use lib.ListN.{length-set}
 use borrow.Author.Tests.{lt-ltb}
 use Rattle.replay_commands.specs.Commands.{commandOf}
 use Rattle.text_scanning.specs.Scanning.{NoFeed}

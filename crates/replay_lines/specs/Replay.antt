@@ -1,8 +1,5 @@
 -- The program `replay`: commands come octet by octet, and each line is answered by one line.
-use Prim.Native.Nat.{ℕ}
-use mathlib.Core.Path.{_≡_}
-use mathlib.Core.List.{List, _++_}
-use lib.ListN.{set, replicate}
+use Rattle.laws.specs.Usual.{_≡_, List, _++_, ℕ, set, replicate}
 use Rattle.replay_commands.specs.Commands.{commandIn}
 use Rattle.text_feeding.specs.Feeding.{Program, fedAll, answeredAll}
 use Rattle.replay_input.specs.Gathering.{fresh, pushed}

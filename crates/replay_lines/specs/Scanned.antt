@@ -1,8 +1,5 @@
 -- A scan of a part of the input takes it octet by octet. Assumes nothing.
-use mathlib.Core.Path.{_≡_, refl}
-use mathlib.Core.List.{List, [], _∷_}
-use Prim.Native.Nat.{ℕ}
-use lib.ListN.{drop, set}
+use Rattle.laws.specs.Usual.{_≡_, refl, List, [], _∷_, ℕ, drop, set}
 use Rattle.text_feeding.specs.Feeding as feeding
 use Rattle.text_feeding.specs.Cut.{Cut, feed, clean, cut}
 use Rattle.text_feeding.specs.Scan.{Scan, scan-feed, scan-clean}

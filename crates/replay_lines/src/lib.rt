@@ -2,9 +2,7 @@
 use replay_input::Line;
 use replay_performing::Reply;
 use station::Station;
-ghost use mathlib.Core.Path.{_≡_};
-ghost use Prim.Native.Nat.{_<_};
-ghost use lib.ListN.{length};
+ghost use Rattle.laws.specs.Usual.{_≡_, _<_, length};
 ghost use Rattle.copying.specs.Pasted.{pasted};
 ghost use Rattle.text_feeding.specs.Feeding.{between, ended, Forward};
 ghost use Rattle.replay_performing.specs.Replaying.{keeping};

@@ -1,9 +1,6 @@
 -- Parts of a list, and octets put in front of one. Assumes nothing.
-use mathlib.Core.Path.{_≡_, ap, sym, _∙_}
-use mathlib.Core.List.{List}
-use Prim.Native.Nat.{ℕ, _-_, _≤_}
-use native.Mathlib.Omega.{arith}
-use lib.ListN.{length, take, drop, length-drop}
+use Rattle.laws.specs.Usual.{_≡_, sym, ap, _∙_, List, ℕ, _-_, _≤_, arith, length, take, drop}
+use lib.ListN.{length-drop}
 use lib.Seq.{take-all}
 use borrow.Rule.Slice.PartMut.{putMid, midOf, mid-len}
 use Rattle.copying.specs.Laws.{paste-part}

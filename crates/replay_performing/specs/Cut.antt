@@ -1,10 +1,6 @@
 -- Of octets that are longer than any frame, the first 1121 are heard as all of them are. Assumes nothing.
-use mathlib.Core.Path.{_≡_, ap}
-use mathlib.Core.List.{List}
-use Prim.Native.Nat.{ℕ, _≤_, _<_}
+use Rattle.laws.specs.Usual.{_≡_, ap, List, ℕ, _<_, _≤_, arith, length, take}
 use native.Mathlib.Decide.{decLe}
-use native.Mathlib.Omega.{arith}
-use lib.ListN.{length, take}
 use lib.Seq.{length-take-le, take-all}
 use borrow.Author.Tests.{lt-leb, le-leb}
 use Rattle.frame.specs.declared.Refusal.the-variants.{Cut}

@@ -1,12 +1,7 @@
 -- A line that came octet by octet, into a buffer of 34,823 octets, does what the whole line says, whatever its length. Assumes nothing.
-use mathlib.Core.Path.{_≡_, refl, ap, sym, _∙_}
-use mathlib.Core.Bool.{Bool, true, false, cond, _&&_}
-use mathlib.Core.List.{List, []}
-use Prim.Native.Nat.{ℕ, _+_, _*_, _≤_, _<_}
+use Rattle.laws.specs.Usual.{_≡_, refl, sym, ap, _∙_, Bool, true, false, cond, _&&_, List, [], ℕ, _+_, _*_, _<_, _≤_, arith, length, getD, take, drop, leb, ltb}
 use native.Mathlib.Decide.{decLe, decLt}
-use native.Mathlib.Omega.{arith}
-use lib.Dec.{leb, ltb}
-use lib.ListN.{length, getD, take, drop, length-drop}
+use lib.ListN.{length-drop}
 use lib.Seq.{take-all}
 use borrow.Author.Tests.{leb-true, le-leb, lt-leb}
 use Rattle.replay_commands.specs.Commands.{stop, ask, panel, state, hear, hearSpace, startSpace, tickSpace, pokeSpace, peekSpace, startBy, startOf, tickOf, peekOf, pokeOf, kept as keptOf, hearOf as hearCommand, shortOf, commandOf, commandIn}

@@ -1,7 +1,6 @@
 -- What each command does to a station and its buffers, and the line that is answered.
-use Prim.Native.Nat.{ℕ, zero, suc, _-_, _*_}
-use mathlib.Core.List.{List}
-use lib.ListN.{length, take, drop}
+use Rattle.laws.specs.Usual.{List, ℕ, suc, _-_, _*_, length, take, drop}
+use Prim.Native.Nat.{zero}
 use Rattle.text_hexadecimal.specs.Octets.{octetsOf}
 use Rattle.replay_commands.specs.declared.Command.{Command}
 use Rattle.replay_commands.specs.declared.Command.the-variants.{Start, Stop, Tick, Hear, Ask, Panel, Poke, Peek, State, Bad}

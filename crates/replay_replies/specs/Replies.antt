@@ -1,7 +1,5 @@
 -- The line that `replay` prints for what a station answers. Each ends in a line feed.
-use Prim.Native.Nat.{ℕ}
-use mathlib.Core.List.{List, [], _∷_}
-use lib.ListN.{take}
+use Rattle.laws.specs.Usual.{List, [], _∷_, ℕ, take}
 use Rattle.replay_reply_outcome.specs.Outcome.{outcomeText}
 use Rattle.replay_reply_parts.specs.Hex.{hexOf}
 use Rattle.replay_reply_parts.specs.Lines.{ended, spaced}

@@ -1,6 +1,5 @@
 -- What became of the token and of the data, as words in ASCII and as a line.
-use Prim.Native.Nat.{ℕ}
-use mathlib.Core.List.{List, [], _∷_}
+use Rattle.laws.specs.Usual.{List, [], _∷_, ℕ}
 use Rattle.replay_reply_parts.specs.Lines.{ended, spaced}
 use Rattle.station.specs.Rules.Answers.{dataOf}
 use Rattle.station.specs.Types.{Data, Kept, Written, Dropped, Token}

@@ -1,7 +1,5 @@
 -- How long words can be. Assumes nothing.
-use Prim.Native.Nat.{_≤_}
-use native.Mathlib.Omega.{arith}
-use lib.ListN.{length}
+use Rattle.laws.specs.Usual.{_≤_, arith, length}
 use Rattle.station.specs.Types.{Data, Kept, Written, Dropped}
 use Rattle.replay_reply_outcome.specs.Outcome.{dataWord}
 

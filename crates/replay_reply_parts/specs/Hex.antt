@@ -1,8 +1,5 @@
 -- Octets as text: two digits an octet, in lower case.
-use Prim.Native.Nat.{ℕ, _+_, _/_, _%_}
-use mathlib.Core.Bool.{cond}
-use mathlib.Core.List.{List, [], _∷_, _++_}
-use lib.Dec.{ltb}
+use Rattle.laws.specs.Usual.{cond, List, [], _∷_, _++_, ℕ, _+_, _/_, _%_, ltb}
 
 -- "0" to "9", then "a" to "f"
 abbrev pub digitOf : ℕ → ℕ

@@ -1,9 +1,5 @@
 -- Laws of octets in hexadecimal. Assumes nothing.
-use mathlib.Core.Path.{_≡_, refl, ap}
-use mathlib.Core.List.{List, [], _∷_, _++_}
-use Prim.Native.Nat.{ℕ, _*_}
-use native.Mathlib.Omega.{arith}
-use lib.ListN.{length}
+use Rattle.laws.specs.Usual.{_≡_, refl, ap, List, [], _∷_, _++_, ℕ, _*_, arith, length}
 use Rattle.replay_reply_parts.specs.Hex.{octetText, hexOf}
 
 -- two digits an octet

@@ -1,6 +1,5 @@
 -- Words put together to a line.
-use Prim.Native.Nat.{ℕ}
-use mathlib.Core.List.{List, [], _∷_, _++_}
+use Rattle.laws.specs.Usual.{List, [], _∷_, _++_, ℕ}
 use Rattle.text.specs.Lines.{space, lineFeed}
 
 -- a line: its words, then the line feed

@@ -1,10 +1,7 @@
 -- Texts that are written one behind the other. Assumes nothing.
-use mathlib.Core.Path.{_≡_, ap₂, _∙_}
-use mathlib.Core.List.{List, _++_}
-use Prim.Native.Nat.{ℕ, _+_, _≤_}
+use Rattle.laws.specs.Usual.{_≡_, ap₂, _∙_, List, _++_, ℕ, _+_, _≤_, arith, length}
 use native.Mathlib.Nat.{zero-add}
-use native.Mathlib.Omega.{arith}
-use lib.ListN.{length, length-append}
+use lib.ListN.{length-append}
 use Rattle.copying.specs.Laws.{paste-append}
 use Rattle.copying.specs.Pasted.{pasted}
 

@@ -1,8 +1,6 @@
 // Octets in hexadecimal, in lower case.
 use crate::put_mark;
-ghost use mathlib.Core.Path.{_≡_};
-ghost use Prim.Native.Nat.{_+_, _*_, _≤_, _<_};
-ghost use lib.ListN.{length};
+ghost use Rattle.laws.specs.Usual.{_≡_, _+_, _*_, _<_, _≤_, length};
 ghost use Rattle.copying.specs.Pasted.{pasted};
 ghost use Rattle.replay_reply_parts.specs.Hex.{digitOf, octetText, hexOf};
 

@@ -3,10 +3,7 @@
 mod hex;
 
 pub use hex::put_hex;
-ghost use mathlib.Core.Path.{_≡_};
-ghost use mathlib.Core.List.{[], _∷_};
-ghost use Prim.Native.Nat.{_+_, _≤_};
-ghost use lib.ListN.{length, take, drop};
+ghost use Rattle.laws.specs.Usual.{_≡_, [], _∷_, _+_, _≤_, length, take, drop};
 ghost use Rattle.copying.specs.Pasted.{pasted};
 ghost use Rattle.text.specs.Decimal.{decimalOf};
 ghost use Rattle.replay_reply_parts.specs.Lines.{ended};

@@ -1,6 +1,5 @@
 -- The lines of the commands that only look, the state aside. Each ends in a line feed.
-use Prim.Native.Nat.{ℕ}
-use mathlib.Core.List.{List}
+use Rattle.laws.specs.Usual.{List, ℕ}
 use Rattle.panel.specs.Panel.{textOf}
 use Rattle.panel.specs.declared.Figure.{Figure}
 use Rattle.replay_reply_parts.specs.Hex.{hexOf}

@@ -4,9 +4,7 @@ use panel::Figure;
 use replay_reply_parts::put_hex;
 use replay_reply_parts::put_line;
 use replay_reply_parts::put_mark;
-ghost use mathlib.Core.Path.{_≡_};
-ghost use Prim.Native.Nat.{_+_, _*_, _≤_};
-ghost use lib.ListN.{length};
+ghost use Rattle.laws.specs.Usual.{_≡_, _+_, _*_, _≤_, length};
 ghost use Rattle.copying.specs.Pasted.{pasted};
 ghost use Rattle.replay_reply_shown.specs.Shown.{panelText, octetsText};
 

@@ -1,9 +1,6 @@
 -- A law for the loop over the entries. Assumes nothing.
-use mathlib.Core.Path.{_≡_, ap, sym, _∙_}
-use mathlib.Core.List.{List, [], _∷_, _++_, append-assoc, append-nil}
-use Prim.Native.Nat.{ℕ, suc, _+_}
-use native.Mathlib.Omega.{arith}
-use lib.ListN.{length}
+use Rattle.laws.specs.Usual.{_≡_, sym, ap, _∙_, List, [], _∷_, _++_, ℕ, suc, _+_, arith, length}
+use mathlib.Core.List.{append-assoc, append-nil}
 use Rattle.members.specs.declared.Entry.{Entry}
 use Rattle.replay_reply_state.specs.State.{entryText, entriesFrom}
 

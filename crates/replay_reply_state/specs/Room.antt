@@ -1,9 +1,6 @@
 -- How long the parts of a state's line can be. Assumes nothing.
-use mathlib.Core.Bool.{Bool, true, false, cond}
-use mathlib.Core.List.{List, [], _∷_, _++_}
-use Prim.Native.Nat.{ℕ, suc, _*_, _≤_}
-use native.Mathlib.Omega.{arith}
-use lib.ListN.{length, length-append}
+use Rattle.laws.specs.Usual.{Bool, true, false, cond, List, [], _∷_, _++_, ℕ, suc, _*_, _≤_, arith, length}
+use lib.ListN.{length-append}
 use Rattle.station.specs.Types.{Entry, Phase, Off, Listening, Startup, Joining, Participating}
 use Rattle.text.specs.Decimal.{decimalOf}
 use Rattle.text.specs.Digits.{at-most}

@@ -1,7 +1,5 @@
 -- The line that shows a station's state. Numbers are in decimal with no leading zeros.
-use Prim.Native.Nat.{ℕ, suc}
-use mathlib.Core.Bool.{cond}
-use mathlib.Core.List.{List, [], _∷_, _++_}
+use Rattle.laws.specs.Usual.{cond, List, [], _∷_, _++_, ℕ, suc}
 use Rattle.replay_reply_parts.specs.Lines.{ended}
 use Rattle.station.specs.Types.{Entry, Phase, Off, Listening, Startup, Joining, Participating, Station}
 use Rattle.text.specs.Decimal.{decimalOf}

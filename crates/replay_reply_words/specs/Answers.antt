@@ -1,6 +1,5 @@
 -- The lines of one word, and the line for a refusal. Each ends in a line feed; numbers are in decimal with no leading zeros.
-use Prim.Native.Nat.{ℕ}
-use mathlib.Core.List.{List, _∷_, _++_}
+use Rattle.laws.specs.Usual.{List, _∷_, _++_, ℕ}
 use Rattle.frame.specs.Refusals.{numberOf}
 use Rattle.replay_reply_parts.specs.Lines.{ended}
 use Rattle.station.specs.Types.{Refusal, Ticked}

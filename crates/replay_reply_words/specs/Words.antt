@@ -1,6 +1,5 @@
 -- The words of the answers, in ASCII.
-use Prim.Native.Nat.{ℕ}
-use mathlib.Core.List.{List, [], _∷_}
+use Rattle.laws.specs.Usual.{List, [], _∷_, ℕ}
 
 -- "done"
 abbrev pub doneWord : List ℕ

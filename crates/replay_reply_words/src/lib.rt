@@ -6,9 +6,7 @@ use replay_reply_parts::put_mark;
 use replay_reply_parts::put_number;
 use replay_reply_parts::put_word;
 use station::Ticked;
-ghost use mathlib.Core.Path.{_≡_};
-ghost use Prim.Native.Nat.{_≤_};
-ghost use lib.ListN.{length};
+ghost use Rattle.laws.specs.Usual.{_≡_, _≤_, length};
 ghost use Rattle.copying.specs.Pasted.{pasted};
 ghost use Rattle.replay_reply_words.specs.Answers.{doneText, badText, refusedText, tickedText};
 

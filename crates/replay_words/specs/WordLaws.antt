@@ -1,12 +1,8 @@
 -- Laws of words, for code that goes through a line from place to place. Assumes nothing.
-use mathlib.Core.Path.{_≡_, ap, _∙_}
-use mathlib.Core.Bool.{true, false}
-use mathlib.Core.List.{List}
-use Prim.Native.Nat.{ℕ, suc, _+_, _≤_, _<_}
+use Rattle.laws.specs.Usual.{_≡_, ap, _∙_, true, false, List, ℕ, suc, _+_, _<_, _≤_, length, getD, drop, eqb}
 use native.Mathlib.Numerals.{add-one}
 use borrow.Author.Tests.{ne-eqb}
-use lib.Dec.{eqb}
-use lib.ListN.{length, getD, drop, drop-of-length-le}
+use lib.ListN.{drop-of-length-le}
 use lib.Seq.{drop-cons}
 use Rattle.text.specs.Lines.{space}
 use Rattle.text_reading.specs.PartLaws.{placeOf, part-at}

@@ -1,9 +1,5 @@
 -- The words of a line, and words as numbers. Words in quotes are those of the table of commands.
-use Prim.Native.Nat.{ℕ}
-use mathlib.Core.Bool.{Bool, true, false, _&&_}
-use mathlib.Core.List.{List, [], _∷_}
-use lib.Dec.{eqb}
-use lib.ListN.{length, getD}
+use Rattle.laws.specs.Usual.{Bool, true, false, _&&_, List, [], _∷_, ℕ, length, getD, eqb}
 use Rattle.text.specs.Lines.{space}
 use Rattle.text_reading.specs.Parts.{partsOf, partsBehind, endOf}
 use Rattle.text_reading.specs.Values.{decimalIn, numberOr}

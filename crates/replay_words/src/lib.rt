@@ -2,9 +2,7 @@
 use text_reading::Value;
 use text_reading::decimal_in;
 use text_reading::place_from;
-ghost use mathlib.Core.Path.{_≡_};
-ghost use Prim.Native.Nat.{_+_};
-ghost use lib.ListN.{drop};
+ghost use Rattle.laws.specs.Usual.{_≡_, _+_, drop};
 ghost use Rattle.text.specs.Lines.{space};
 ghost use Rattle.text_reading.specs.Marks.{before};
 ghost use Rattle.replay_words.specs.Words.{begins, same, decimal, numberAt};

@@ -1,12 +1,8 @@
 -- Stations 1, 2 and 3 of the worked rings, each brought up from off by calls alone, and the token frame that they send and hear. Assumes
 -- nothing.
-use mathlib.Core.Path.{_≡_, refl, ap, sym, subst, _∙_}
-use mathlib.Core.Bool.{Bool, true, false, cond, _&&_, false≢true}
-use mathlib.Core.List.{List, [], _∷_, _++_, List·Memᴰ·head, List·Memᴰ·tail}
-use Prim.Native.Nat.{ℕ, zero, suc, _+_, _<_}
-use native.Mathlib.Omega.{arith}
-use lib.Dec.{ltb}
-use lib.ListN.{getD, length, replicate, take, drop}
+use Rattle.laws.specs.Usual.{_≡_, refl, sym, ap, subst, _∙_, Bool, true, false, cond, _&&_, false≢true, List, [], _∷_, _++_, ℕ, suc, _+_, _<_, arith, length, getD, take, drop, replicate, ltb}
+use mathlib.Core.List.{List·Memᴰ·head, List·Memᴰ·tail}
+use Prim.Native.Nat.{zero}
 use borrow.Author.Tests.{ltb-true, le-leb}
 use Rattle.block.specs.Blocks.{startOf}
 use Rattle.frame.specs.declared.Refusal.the-variants as refusals
@@ -15,7 +11,7 @@ use Rattle.frame_round_trip.specs.Sent.{blockFields}
 use Rattle.settling.specs.Next.{ascending-cons}
 use Rattle.settling.specs.Ring.{_∈_, Stations as Ascending}
 use Rattle.station.specs.Rules.Asking.{askOf, dueFields, dueIn, lentRight, nextBlock, nextStation, refused, turnAfter, written}
-use Rattle.station.specs.Rules.Calls.{Call, start, tick, hear, ask, after, taken, verdict}
+use Rattle.station.specs.Rules.Calls.{Call, start, tick, hear, ask, after, unrefused, verdict}
 use Rattle.station.specs.Panel.History.{stateAfter}
 use Rattle.station.specs.States.Reachable.{Reachable, unstarted, called, TypedSettings}
 use Rattle.station.specs.Rules.State.{never}
@@ -198,8 +194,8 @@ unfolding headerOf frontOf backOf fixedFor fieldsOf
 two-last = sent (two (tokenOctets 3 2)) large large (replicate 1088 0) 64 (two-reached (tokenOctets 3 2) refl) refl (writes (two (tokenOctets 3 2)) refl refl refl refl refl)
 
 -- stations 1 and 3 hear it
-pub one-heard : (last : List ℕ) → small last ≡ true → verdict (one last) (hears passed) ≡ taken → LastCall passed (after (one last) (hears passed))
+pub one-heard : (last : List ℕ) → small last ≡ true → verdict (one last) (hears passed) ≡ unrefused → LastCall passed (after (one last) (hears passed))
 one-heard last s unrefused = heard (one last) large large (one-reached last s) (small-at passed passed-small) unrefused
 
-pub three-heard : (last : List ℕ) → small last ≡ true → verdict (three last) (hears passed) ≡ taken → LastCall passed (after (three last) (hears passed))
+pub three-heard : (last : List ℕ) → small last ≡ true → verdict (three last) (hears passed) ≡ unrefused → LastCall passed (after (three last) (hears passed))
 three-heard last s unrefused = heard (three last) large large (three-reached last s) (small-at passed passed-small) unrefused

@@ -1,12 +1,7 @@
 -- The ring as a machine of the theory of views: each event makes the pass or the silence that it counts as. Assumes nothing.
-use mathlib.Core.Path.{_≡_, refl, ap, sym, subst, _∙_}
-use mathlib.Core.Bool.{Bool, true, false, cond, _||_}
-use mathlib.Core.List.{List, [], _∷_, List·Memᴰ·head, List·Memᴰ·tail}
-use Prim.Native.Nat.{ℕ, suc, _+_, _<_}
+use Rattle.laws.specs.Usual.{_≡_, refl, sym, ap, subst, _∙_, Bool, true, false, cond, _||_, List, [], _∷_, ℕ, suc, _+_, _<_, arith, length, eqb}
+use mathlib.Core.List.{List·Memᴰ·head, List·Memᴰ·tail}
 use native.Mathlib.Nat.{add-zero, zero-add}
-use native.Mathlib.Omega.{arith}
-use lib.Dec.{eqb}
-use lib.ListN.{length}
 use Rattle.settling.specs.Ring.{_∈_, next, pass, silence}
 use Rattle.settling.specs.Ring as theory
 use Rattle.settling.specs.Simulation.{Effect, makes, add, made, Machine, Moved}

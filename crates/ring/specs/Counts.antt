@@ -1,11 +1,6 @@
 -- Paper 01, "The ring in demand 3": what is a pass and what is a silence, told from the octets that are written and from the watches; their
 -- counts in a list of events; and what an event does to the views.
-use mathlib.Core.Path.{_≡_}
-use mathlib.Core.Bool.{Bool, true, false, cond, _||_}
-use mathlib.Core.List.{List, [], _∷_}
-use Prim.Native.Nat.{ℕ, _+_}
-use lib.Dec.{eqb}
-use lib.ListN.{length, take}
+use Rattle.laws.specs.Usual.{_≡_, Bool, true, false, cond, _||_, List, [], _∷_, ℕ, _+_, length, take, eqb}
 use Rattle.frame.specs.Codes.{isToken}
 use Rattle.frame_reading.specs.Reading.{readOf}
 use Rattle.frame_reading.specs.declared.Read.the-variants as read

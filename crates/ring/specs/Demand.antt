@@ -1,16 +1,12 @@
 -- Demand 3: its premises, the disturbed ring as the paper takes it, and its conclusion, one sentence a field.
-use mathlib.Core.Path.{_≡_}
-use mathlib.Core.Bool.{true}
-use mathlib.Core.List.{List, [], _++_}
-use Prim.Native.Nat.{ℕ, _+_, _-_, _*_, _≤_}
-use lib.ListN.{length, take}
+use Rattle.laws.specs.Usual.{_≡_, true, List, [], _++_, ℕ, _+_, _-_, _*_, _≤_, length, take}
 use Rattle.frame.specs.Codes.{isToken}
 use Rattle.members.specs.Members.{ringOf}
 use Rattle.frame_reading.specs.Reading.{readOf}
 use Rattle.settling.specs.Ring.{_∈_, Stations as Ascending}
 use Rattle.settling.specs.Steps.{afterAll, EachFinds}
 use Rattle.station.specs.Rules.Asking.{askOf}
-use Rattle.station.specs.Rules.Calls.{after, hear, ask, taken, verdict}
+use Rattle.station.specs.Rules.Calls.{after, hear, ask, unrefused, verdict}
 use Rattle.station.specs.States.Reachable.{Reachable, Typed}
 use Rattle.station.specs.declared.Asked.the-variants.{Octets}
 use Rattle.station.specs.Types.{Fields, Frame, Participating, Station}
@@ -23,7 +19,7 @@ pub data LastCall (octets : List ℕ) : Station → Type 0 where
       → askOf before memory turn output .answer ≡ Octets count → take count (askOf before memory turn output .output) ≡ octets
       → LastCall octets (after before (ask memory turn output))
   heard : (before : Station) (memory assembly : List ℕ) → Reachable before → Typed (hear octets memory assembly)
-      → verdict before (hear octets memory assembly) ≡ taken → LastCall octets (after before (hear octets memory assembly))
+      → verdict before (hear octets memory assembly) ≡ unrefused → LastCall octets (after before (hear octets memory assembly))
 
 -- a disturbed ring, as demand 3 takes it
 pub record Disturbed (numbers : List ℕ) (stations : Stations) : Type 0 where

@@ -1,8 +1,5 @@
 -- Demand 3 of the ring of full stations. Assumes nothing.
-use mathlib.Core.Path.{_≡_, ap, sym, subst, _∙_}
-use mathlib.Core.Bool.{true, false}
-use mathlib.Core.List.{List}
-use Prim.Native.Nat.{ℕ}
+use Rattle.laws.specs.Usual.{_≡_, sym, ap, subst, _∙_, true, false, List, ℕ}
 use Rattle.misses.specs.CoverThird.{reached-brought}
 use Rattle.frame_reading.specs.Reading.{isStation}
 use Rattle.settling.specs.First.{FirstAgreement, first-exists, agreed?}

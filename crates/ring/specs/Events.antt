@@ -1,10 +1,5 @@
 -- Paper 01, "The ring in demand 3": what happens in a ring of full stations. Words in quotes are the paper's.
-use mathlib.Core.Path.{_≡_}
-use mathlib.Core.Bool.{Bool, true, false, cond, _&&_}
-use mathlib.Core.List.{List}
-use Prim.Native.Nat.{ℕ}
-use lib.Dec.{eqb}
-use lib.ListN.{take}
+use Rattle.laws.specs.Usual.{_≡_, Bool, true, false, cond, _&&_, List, ℕ, take, eqb}
 use Rattle.frame.specs.Codes.{isCyclic}
 use Rattle.frame.specs.declared.Code.the-variants.{Request}
 use Rattle.misses.specs.MissHistory.{ThirdRunning}

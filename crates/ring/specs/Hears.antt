@@ -1,10 +1,7 @@
 -- A station of the ring hears what another one sends. Assumes nothing.
-use mathlib.Core.Path.{_≡_, sym, _∙_}
-use mathlib.Core.Bool.{true, or-true}
-use mathlib.Core.List.{List}
-use Prim.Native.Nat.{ℕ}
+use Rattle.laws.specs.Usual.{_≡_, sym, _∙_, true, List, ℕ, eqb}
+use mathlib.Core.Bool.{or-true}
 use native.Mathlib.Decide.{ℕ-discrete}
-use lib.Dec.{eqb}
 use borrow.Author.Tests.{eq-eqb}
 use Rattle.frame.specs.Codes.{isCyclic}
 use Rattle.frame_reading.specs.Reading.{readOf, dataOf}

@@ -1,15 +1,11 @@
 -- A participant whose last call sent or heard a token frame has just restarted its watch. Assumes nothing.
-use mathlib.Core.Path.{_≡_, refl, ap, sym, _∙_}
-use mathlib.Core.Bool.{true, false, false≢true}
-use mathlib.Core.List.{List}
-use Prim.Native.Nat.{ℕ}
-use native.Mathlib.Omega.{arith}
+use Rattle.laws.specs.Usual.{_≡_, refl, sym, ap, _∙_, true, false, false≢true, List, ℕ, arith}
 use Rattle.frame.specs.Codes.{isToken, isCyclic}
 use Rattle.frame.specs.declared.Code.the-variants.{Token, Cyclic, Request, Trigger}
 use Rattle.frame_reading.specs.Reading.{readOf}
 use Rattle.frame_round_trip.specs.Accepted.{reads}
 use Rattle.station.specs.Outcomes.AskCases as on-asking
-use Rattle.station.specs.Rules.Calls.{taken, refusedBy, heardVerdict}
+use Rattle.station.specs.Rules.Calls.{unrefused, refusedBy, heardVerdict}
 use Rattle.station.specs.Outcomes.HearCases as on-hearing
 use Rattle.station.specs.Rules.State.{isParticipating}
 use Rattle.station.specs.declared.Asked.the-variants.{Octets}
@@ -37,7 +33,7 @@ token-cyclic Cyclic e = refl
 token-cyclic Request e = absurd (false≢true e)
 token-cyclic Trigger e = absurd (false≢true e)
 
-refused-not : {refusal : Refusal} → refusedBy refusal ≡ taken → ⊥
+refused-not : {refusal : Refusal} → refusedBy refusal ≡ unrefused → ⊥
 refused-not e = let z : _≡_ {A = ℕ} 0 1 = cc in omega arith
 
 -- and so has one that participates after it heard a token frame, which does not make it participate
@@ -48,7 +44,7 @@ module _ {station : Station} {octets memory assembly : List ℕ} (frame : Fields
       let same : frame ≡ other = cc in
       ap (λ (f : Fields). isCyclic (f .code)) (sym same) ∙ token-cyclic (frame .code) token
 
-  heard-zero : {result : Hearing} → on-hearing.HearCases station octets memory assembly result → heardVerdict (result .answer) ≡ taken →
+  heard-zero : {result : Hearing} → on-hearing.HearCases station octets memory assembly result → heardVerdict (result .answer) ≡ unrefused →
       result .station .phase ≡ Participating → result .station .elapsed .0 ≡ 0
   heard-zero (on-hearing.refuses refusal) v p = absurd (refused-not v)
   heard-zero (on-hearing.turnsOff out) v p = absurd (refused-not v)

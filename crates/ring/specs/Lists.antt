@@ -1,10 +1,7 @@
 -- What holds of the list of a station in a ring. Assumes nothing.
-use mathlib.Core.Path.{_≡_, refl, ap}
-use mathlib.Core.Bool.{true, cond}
-use mathlib.Core.List.{List, [], _∷_}
+use Rattle.laws.specs.Usual.{_≡_, refl, ap, true, cond, List, [], _∷_, ℕ, suc, getD, set}
 use mathlib.Core.Logic.{_⊎_, inl, inr}
-use Prim.Native.Nat.{ℕ, zero, suc}
-use lib.ListN.{getD, set}
+use Prim.Native.Nat.{zero}
 use Rattle.members.specs.Members.{nobody, isListed, withEntry, numbersFrom, withOurs, ringOf}
 use Rattle.station.specs.Types.{Entry, Members}
 use Rattle.settling.specs.Ring.{_∈_}

@@ -1,10 +1,6 @@
 -- A ring that is in order, and every list of events that can come to it, settles. Assumes nothing.
-use mathlib.Core.Path.{_≡_, refl, ap, sym, subst, _∙_}
-use mathlib.Core.Bool.{true}
-use mathlib.Core.List.{List, [], _∷_, _++_, append-assoc, List·Memᴰ·head}
-use Prim.Native.Nat.{ℕ, _<_}
-use native.Mathlib.Omega.{arith}
-use lib.ListN.{length}
+use Rattle.laws.specs.Usual.{_≡_, refl, sym, ap, subst, _∙_, true, List, [], _∷_, _++_, ℕ, _<_, arith, length}
+use mathlib.Core.List.{append-assoc, List·Memᴰ·head}
 use Rattle.members.specs.Members.{firstOf}
 use Rattle.frame_reading.specs.Reading.{isStation}
 use Rattle.settling.specs.Append.{finds-front, finds-back}

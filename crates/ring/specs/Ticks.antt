@@ -1,9 +1,5 @@
 -- A tick is a silence at all stations alike, or nothing, to the views of the ring. Assumes nothing.
-use mathlib.Core.Path.{_≡_, refl, ap, ap₂, sym, subst, _∙_}
-use mathlib.Core.Bool.{Bool, true, false}
-use mathlib.Core.List.{List}
-use Prim.Native.Nat.{ℕ, _+_, _*_, min}
-use lib.Dec.{leb}
+use Rattle.laws.specs.Usual.{_≡_, refl, sym, ap, ap₂, subst, _∙_, Bool, true, false, List, ℕ, _+_, _*_, min, leb}
 use borrow.Author.Tests.{eqb-false}
 use Rattle.members.specs.Members.{firstOf, nextAfter, missed}
 use Rattle.panel.specs.Panel.{ticked as panelTicked}

@@ -1,12 +1,6 @@
 -- A ring of three stations that meets the premises of demand 3, with two holders, and one pass that settles it. Assumes nothing.
-use mathlib.Core.Path.{_≡_, refl, sym, _∙_}
-use mathlib.Core.Bool.{true, cond}
+use Rattle.laws.specs.Usual.{_≡_, refl, sym, _∙_, true, cond, List, [], _∷_, ℕ, arith, replicate, eqb}
 use mathlib.Core.Logic.{inr}
-use mathlib.Core.List.{List, [], _∷_}
-use Prim.Native.Nat.{ℕ}
-use native.Mathlib.Omega.{arith}
-use lib.Dec.{eqb}
-use lib.ListN.{replicate}
 use Rattle.members.specs.Members.{ringOf}
 use Rattle.frame_reading.specs.Reading.{fieldsOf, readOf}
 use Rattle.settling.specs.First.{FirstAgreement}

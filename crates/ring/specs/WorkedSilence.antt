@@ -1,12 +1,8 @@
 -- Rings of three stations in which nobody holds: a silence comes, and agreement follows. Assumes nothing.
-use mathlib.Core.Path.{_≡_, refl, sym, _∙_}
-use mathlib.Core.Bool.{Bool, true, false, cond, not, _&&_, _||_, false≢true}
+use Rattle.laws.specs.Usual.{_≡_, refl, sym, _∙_, Bool, true, false, cond, not, _&&_, _||_, false≢true, List, [], _∷_, _++_, ℕ, suc, arith, replicate, eqb}
 use mathlib.Core.Logic.{inr}
-use mathlib.Core.List.{List, [], _∷_, _++_, append-nil}
-use Prim.Native.Nat.{ℕ, zero, suc}
-use native.Mathlib.Omega.{arith}
-use lib.Dec.{eqb}
-use lib.ListN.{replicate}
+use mathlib.Core.List.{append-nil}
+use Prim.Native.Nat.{zero}
 use borrow.Author.Tests.{eqb-false}
 use Rattle.laws.specs.Tests.{first, second, implied}
 use Rattle.misses.specs.CoverThird.{brought-more, reached-brought, strikesInView, cover-third}

@@ -1,14 +1,9 @@
 -- Laws of the form of a line, for code that works on parts of it. Assumes nothing.
-use mathlib.Core.Path.{_≡_, refl, ap, sym, _∙_}
-use mathlib.Core.Bool.{cond, _&&_}
-use mathlib.Core.List.{List, [], _∷_}
-use Prim.Native.Nat.{ℕ, suc, _+_, _≤_, _<_}
-use native.Mathlib.Omega.{arith}
+use Rattle.laws.specs.Usual.{_≡_, refl, sym, ap, _∙_, cond, _&&_, List, [], _∷_, ℕ, suc, _+_, _<_, _≤_, arith, length, take, ltb}
 use native.Mathlib.Numerals.{add-one}
 use native.Mathlib.Decide.{decLt}
 use borrow.Author.Tests.{lt-ltb, le-ltb}
-use lib.Dec.{ltb}
-use lib.ListN.{length, take, length-take}
+use lib.ListN.{length-take}
 use lib.Seq.{take-all}
 use Rattle.text.specs.Lines.{comma, lineFeed}
 use Rattle.text_reading.specs.MarkLaws.{before-most}

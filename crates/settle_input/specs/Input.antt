@@ -1,9 +1,5 @@
 -- Reading the input of `settle`. Words in quotes are paper 01's, section "settle".
-use mathlib.Core.Bool.{cond, _&&_}
-use mathlib.Core.List.{List, [], _∷_, map}
-use Prim.Native.Nat.{ℕ, suc, _+_}
-use lib.Dec.{eqb, ltb}
-use lib.ListN.{length, take, drop, set, replicate}
+use Rattle.laws.specs.Usual.{cond, _&&_, List, [], _∷_, map, ℕ, suc, _+_, length, take, drop, set, replicate, eqb, ltb}
 use Rattle.text.specs.Lines.{comma, lineFeed}
 use Rattle.text_reading.specs.Marks.{before, upTo, behind, has}
 use Rattle.text_reading.specs.Parts.{inFront}

@@ -1,12 +1,7 @@
 -- The lines of the input, one after the other. Assumes nothing.
-use mathlib.Core.Path.{_≡_, refl, ap, _∙_}
-use mathlib.Core.Bool.{Bool, true, false, cond}
-use mathlib.Core.List.{List, [], _∷_}
-use Prim.Native.Nat.{ℕ, suc, _+_, _≤_, _<_}
-use native.Mathlib.Omega.{arith}
+use Rattle.laws.specs.Usual.{_≡_, refl, ap, _∙_, Bool, true, false, cond, List, [], _∷_, ℕ, suc, _+_, _<_, _≤_, arith, length, take, drop, set, eqb}
 use borrow.Author.Tests.{lt-ltb, le-ltb}
-use lib.Dec.{eqb}
-use lib.ListN.{length, take, drop, set, length-drop}
+use lib.ListN.{length-drop}
 use lib.Seq.{drop-drop}
 use Rattle.text.specs.Lines.{lineFeed}
 use Rattle.text_reading.specs.Marks.{before}

@@ -1,10 +1,8 @@
 -- The numbers and lines that are read are those that `text` writes, and no others. Assumes nothing.
-use mathlib.Core.Path.{_≡_, refl, ap, ap₂, sym, _∙_, subst}
-use mathlib.Core.List.{List, [], _∷_, _++_, append-assoc, append-nil}
-use Prim.Native.Nat.{ℕ, suc, _+_, _≤_, _<_}
-use native.Mathlib.Omega.{arith}
+use Rattle.laws.specs.Usual.{_≡_, refl, sym, ap, ap₂, subst, _∙_, List, [], _∷_, _++_, ℕ, suc, _+_, _<_, _≤_, arith, length}
+use mathlib.Core.List.{append-assoc, append-nil}
 use borrow.Author.Tests.{lt-ltb}
-use lib.ListN.{length, length-drop}
+use lib.ListN.{length-drop}
 use Rattle.text.specs.Decimal.{decimalOf}
 use Rattle.text.specs.Lines.{comma, lineFeed, lineOf}
 use Rattle.text_reading.specs.MarkLaws.{before-behind, before-front, has-mark, up-to, behind-it, split-mark}

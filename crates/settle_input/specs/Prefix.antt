@@ -1,12 +1,10 @@
 -- The answer for an input of any size is the answer for its first 2,040 octets, or more of them. Assumes nothing.
-use mathlib.Core.Path.{_≡_, ap, sym, _∙_}
-use mathlib.Core.List.{List, [], _∷_}
-use Prim.Native.Nat.{ℕ, zero, suc, _+_, _-_, _*_, _≤_, _<_}
+use Rattle.laws.specs.Usual.{_≡_, sym, ap, _∙_, List, [], _∷_, ℕ, suc, _+_, _-_, _*_, _<_, _≤_, arith, length, take, drop, set, replicate}
+use Prim.Native.Nat.{zero}
 use native.Mathlib.Nat.{zero-add, suc-add}
 use native.Mathlib.Decide.{decLe, decLt}
-use native.Mathlib.Omega.{arith}
 use borrow.Author.Tests.{lt-ltb, le-ltb, ne-eqb}
-use lib.ListN.{length, take, drop, set, replicate, length-take, length-drop}
+use lib.ListN.{length-take, length-drop}
 use lib.Seq.{take-all, take-take, take-nil}
 use Rattle.text.specs.Lines.{lineFeed}
 use Rattle.text_reading.specs.MarkLaws.{before-front, before-whole}

@@ -1,13 +1,8 @@
 -- A line that has an entry is short: at most 8 octets, the last of them its line feed. Assumes nothing.
-use mathlib.Core.Path.{_≡_, refl, ap}
-use mathlib.Core.Bool.{Bool, true, false, _&&_}
-use mathlib.Core.List.{List}
-use Prim.Native.Nat.{ℕ, suc, _+_, _≤_, _<_}
+use Rattle.laws.specs.Usual.{_≡_, refl, ap, Bool, true, false, _&&_, List, ℕ, suc, _+_, _<_, _≤_, arith, length, ltb}
 use native.Mathlib.Decide.{decLe, ℕ-discrete}
-use native.Mathlib.Omega.{arith}
 use borrow.Author.Tests.{ltb-true}
-use lib.Dec.{ltb}
-use lib.ListN.{length, length-take, length-drop}
+use lib.ListN.{length-take, length-drop}
 use Rattle.laws.specs.Tests.{first, second}
 use Rattle.text.specs.Lines.{comma, lineFeed}
 use Rattle.text_reading.specs.MarkLaws.{before-most, before-behind, before-front}

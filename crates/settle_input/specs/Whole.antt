@@ -1,13 +1,7 @@
 -- The ring that is read has the stations of the lines, in their order, each with the view of its line; every view is one of them.
 -- Assumes nothing.
-use mathlib.Core.Path.{_≡_, refl, ap, sym, _∙_, subst}
-use mathlib.Core.Bool.{Bool, true, false}
-use mathlib.Core.List.{List, map}
-use Prim.Native.Nat.{ℕ, _<_}
-use native.Mathlib.Omega.{arith}
+use Rattle.laws.specs.Usual.{_≡_, refl, sym, ap, subst, _∙_, Bool, true, false, List, map, ℕ, _<_, arith, length, eqb}
 use borrow.Author.Tests.{eqb-true, eqb-false}
-use lib.Dec.{eqb}
-use lib.ListN.{length}
 use Rattle.settle_views.specs.Views.{stationsOf, viewsOf, unlistedIn}
 use Rattle.settle_views.specs.declared.Ring.{Ring}
 use Rattle.settle_input.specs.declared.Verdict.the-variants as verdicts

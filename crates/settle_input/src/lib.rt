@@ -3,9 +3,7 @@ use settle_views::Ring;
 use text_reading::Value;
 use text_reading::decimal_in;
 use text_reading::place_of;
-ghost use mathlib.Core.Path.{_≡_};
-ghost use Prim.Native.Nat.{_<_};
-ghost use lib.ListN.{length};
+ghost use Rattle.laws.specs.Usual.{_≡_, _<_, length};
 ghost use Rattle.settle_input.specs.Input.{numberIn, noEntry, entryOf, firstLine, noRing, lineAt, formsOf, bad, readOf};
 
 // What a line says; both are 0 where it has not the form of a line.

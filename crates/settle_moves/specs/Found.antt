@@ -1,12 +1,7 @@
 -- `next` by two searches for the first listed station: above a number, and from the start. Assumes nothing.
-use mathlib.Core.Path.{_≡_, refl, ap, _∙_}
-use mathlib.Core.Bool.{Bool, true, false, cond}
-use mathlib.Core.List.{List, [], _∷_}
-use Prim.Native.Nat.{ℕ, zero, suc, _+_, _<_}
-use native.Mathlib.Omega.{arith}
+use Rattle.laws.specs.Usual.{_≡_, refl, ap, _∙_, Bool, true, false, cond, List, [], _∷_, ℕ, suc, _+_, _<_, arith, drop, eqb}
+use Prim.Native.Nat.{zero}
 use borrow.Author.Tests.{lt-ltb, le-ltb}
-use lib.Dec.{eqb}
-use lib.ListN.{drop}
 use Rattle.settling.specs.Ring.{firstAbove, next}
 use Rattle.settle_views.specs.Views.{stationsFrom}
 use Rattle.settle_moves.specs.Moves.{firstListed}

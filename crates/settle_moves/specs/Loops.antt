@@ -1,11 +1,9 @@
 -- Laws for loops that go over a ring by the numbers of its stations. Assumes nothing.
-use mathlib.Core.Path.{_≡_, ap, _∙_, sym}
-use mathlib.Core.List.{List, _++_, map, append-nil}
-use Prim.Native.Nat.{ℕ, suc, _+_, _≤_, _<_}
+use Rattle.laws.specs.Usual.{_≡_, sym, ap, _∙_, List, _++_, map, ℕ, suc, _+_, _<_, _≤_, arith, length, getD, take, drop, set}
+use mathlib.Core.List.{append-nil}
 use native.Mathlib.Numerals.{add-one}
-use native.Mathlib.Omega.{arith}
 use borrow.Author.Tests.{eq-eqb, ne-eqb}
-use lib.ListN.{length, getD, take, drop, set, drop-of-length-le, length-map, List·getD-map}
+use lib.ListN.{drop-of-length-le, length-map, List·getD-map}
 use lib.Seq.{drop-cons, take-suc, take-all, length-take-le, set-at, append-snoc}
 use Rattle.settle_moves.specs.Moves.{firstListed}
 

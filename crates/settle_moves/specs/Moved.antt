@@ -1,9 +1,8 @@
 -- What an event does to a ring whose every view is one of its stations: what `move` does. Assumes nothing.
-use mathlib.Core.Path.{_≡_, refl, ap, _∙_, sym, subst}
-use mathlib.Core.List.{List, Memᴰ·cast}
-use Prim.Native.Nat.{ℕ, _<_}
+use Rattle.laws.specs.Usual.{_≡_, refl, sym, ap, subst, _∙_, List, ℕ, _<_, length}
+use mathlib.Core.List.{Memᴰ·cast}
 use borrow.Author.Tests.{ne-eqb}
-use lib.ListN.{length, List·getD-map}
+use lib.ListN.{List·getD-map}
 use Rattle.settling.specs.Ring.{_∈_, Views, Within, Event, pass, silence, move, Legal}
 use Rattle.settling.specs.Same.{Same}
 use Rattle.settling.specs.Next.{laws-of}

@@ -1,8 +1,5 @@
 -- What an event does to the ring that `settle` works on. Words in quotes are paper 01's.
-use mathlib.Core.Bool.{cond}
-use mathlib.Core.List.{List, [], _∷_, map}
-use Prim.Native.Nat.{ℕ, suc, min}
-use lib.Dec.{eqb}
+use Rattle.laws.specs.Usual.{cond, List, [], _∷_, map, ℕ, suc, min, eqb}
 use Rattle.settling.specs.Ring.{Event, move}
 use Rattle.settle_views.specs.Views.{stationsOf}
 use Rattle.settle_views.specs.declared.Ring.{Ring}

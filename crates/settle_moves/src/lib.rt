@@ -1,7 +1,6 @@
 // What a pass and a silence do to a ring of token views.
 use settle_views::Ring;
-ghost use mathlib.Core.Path.{_≡_};
-ghost use lib.ListN.{drop};
+ghost use Rattle.laws.specs.Usual.{_≡_, drop};
 ghost use Rattle.settling.specs.Ring.{next, pass, silence};
 ghost use Rattle.settle_views.specs.Views.{stationsOf, viewsOf};
 ghost use Rattle.settle_moves.specs.Moves.{firstListed, passedView, viewAfter, moved};

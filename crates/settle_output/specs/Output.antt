@@ -1,9 +1,5 @@
 -- The output lines of `settle`. Words in quotes are paper 01's, section "settle".
-use mathlib.Core.Bool.{cond}
-use mathlib.Core.List.{List, [], _∷_}
-use Prim.Native.Nat.{ℕ}
-use lib.Dec.{ltb}
-use lib.ListN.{length}
+use Rattle.laws.specs.Usual.{cond, List, [], _∷_, ℕ, length, ltb}
 use Rattle.copying.specs.Pasted.{pasted}
 use Rattle.text.specs.Lines.{lineOf}
 use Rattle.settle_views.specs.Views.{stationsOf, viewsOf, differentViews}

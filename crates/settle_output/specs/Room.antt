@@ -1,8 +1,6 @@
 -- Every line of `settle` fits into `room`, and none is empty. Assumes nothing.
-use mathlib.Core.List.{List, [], _∷_, _++_}
-use Prim.Native.Nat.{ℕ, _+_, _*_, _≤_}
-use native.Mathlib.Omega.{arith}
-use lib.ListN.{length, length-append}
+use Rattle.laws.specs.Usual.{List, [], _∷_, _++_, ℕ, _+_, _*_, _≤_, arith, length}
+use lib.ListN.{length-append}
 use Rattle.text.specs.Lines.{lineFeed, numbersOf, lineOf}
 use Rattle.text.specs.LineLaws.{numbers-length}
 use Rattle.settle_views.specs.Views.{stationsOf, viewsOf, differentViews}

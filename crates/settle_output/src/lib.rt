@@ -2,9 +2,7 @@
 use settle_run::Kind;
 use settle_run::Settled;
 use settle_run::Stepped;
-ghost use mathlib.Core.Path.{_≡_};
-ghost use Prim.Native.Nat.{_+_, _*_, _≤_};
-ghost use lib.ListN.{length};
+ghost use Rattle.laws.specs.Usual.{_≡_, _+_, _*_, _≤_, length};
 ghost use Rattle.text.specs.Lines.{lineOf};
 ghost use Rattle.settle_run.specs.Run.{letterOf};
 ghost use Rattle.settle_output.specs.Output.{room, writtenTo, lengthIn, headerLine, stepLine, settledLine, badLine};

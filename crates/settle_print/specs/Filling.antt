@@ -1,13 +1,10 @@
 -- How a buffer fills, line by line: what was put into it and what is still to be printed are together what was to be printed. Assumes
 -- nothing.
-use mathlib.Core.Path.{_≡_, refl, ap, sym, subst, _∙_}
-use mathlib.Core.Bool.{Bool, true, false, cond, not, _&&_}
-use mathlib.Core.List.{List, _++_, append-assoc}
-use Prim.Native.Nat.{ℕ, zero, suc, _+_, _-_, _≤_, _<_}
-use native.Mathlib.Omega.{arith}
+use Rattle.laws.specs.Usual.{_≡_, refl, sym, ap, subst, _∙_, Bool, true, false, cond, not, _&&_, List, _++_, ℕ, suc, _+_, _-_, _<_, _≤_, arith, length, take, leb}
+use mathlib.Core.List.{append-assoc}
+use Prim.Native.Nat.{zero}
 use borrow.Author.Tests.{le-leb, leb-true, not-true}
-use lib.Dec.{leb}
-use lib.ListN.{length, take, length-append}
+use lib.ListN.{length-append}
 use lib.Seq.{take-at}
 use Rattle.laws.specs.Tests.{first, second}
 use Rattle.settle_output.specs.Output.{room}

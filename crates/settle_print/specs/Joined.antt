@@ -1,10 +1,7 @@
 -- What `settle` prints, part by part, is `outputOf` of its input. Assumes nothing.
-use mathlib.Core.Path.{_≡_, refl, ap, sym, _∙_}
-use mathlib.Core.Bool.{Bool, true, false}
-use mathlib.Core.List.{List, [], _++_, append-assoc, append-nil}
-use Prim.Native.Nat.{ℕ, zero, suc, _≤_}
-use native.Mathlib.Omega.{arith}
-use lib.ListN.{length, take}
+use Rattle.laws.specs.Usual.{_≡_, refl, sym, ap, _∙_, Bool, true, false, List, [], _++_, ℕ, suc, _≤_, arith, length, take}
+use mathlib.Core.List.{append-assoc, append-nil}
+use Prim.Native.Nat.{zero}
 use Rattle.copying.specs.Laws.{front-read, length-pasted}
 use Rattle.settle_output.specs.Output.{room}
 use Rattle.settle_rest.specs.Begun.{begun}

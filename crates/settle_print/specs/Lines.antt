@@ -1,9 +1,7 @@
 -- Laws of one line: it stands in front of what is still to be printed, and fits. Assumes nothing.
-use mathlib.Core.Path.{_≡_, refl, ap, sym}
-use mathlib.Core.Bool.{Bool, true, false, false≢true}
-use mathlib.Core.List.{[], _++_, append-assoc, append-nil}
-use Prim.Native.Nat.{ℕ, zero, suc, _≤_}
-use native.Mathlib.Omega.{arith}
+use Rattle.laws.specs.Usual.{_≡_, refl, sym, ap, Bool, true, false, false≢true, [], _++_, ℕ, suc, _≤_, arith}
+use mathlib.Core.List.{append-assoc, append-nil}
+use Prim.Native.Nat.{zero}
 use Rattle.settle_run.specs.Run.{steppedOf}
 use Rattle.settle_output.specs.Output.{stepLine, settledLine, badLine}
 use Rattle.settle_output.specs.Room.{Fits, header-fits, step-fits, settled-fits, bad-fits}

@@ -1,9 +1,6 @@
 -- The parts in which what is still to be printed goes into a lent buffer.
-use mathlib.Core.Bool.{cond}
-use mathlib.Core.List.{List, []}
-use Prim.Native.Nat.{ℕ, zero, suc, _+_, _-_}
-use lib.Dec.{leb}
-use lib.ListN.{length, take}
+use Rattle.laws.specs.Usual.{cond, List, [], ℕ, suc, _+_, _-_, length, take, leb}
+use Prim.Native.Nat.{zero}
 use Rattle.copying.specs.Pasted.{pasted}
 use Rattle.settle_run.specs.Run.{steppedOf}
 use Rattle.settle_output.specs.Output.{room, headerLine, stepLine, settledLine, badLine}

@@ -2,9 +2,7 @@
 use settle_rest::Printing;
 use settle_rest::Stage;
 use settle_rest::is_over;
-ghost use mathlib.Core.Path.{_≡_};
-ghost use Prim.Native.Nat.{_≤_};
-ghost use lib.ListN.{length};
+ghost use Rattle.laws.specs.Usual.{_≡_, _≤_, length};
 ghost use Rattle.copying.specs.Pasted.{pasted};
 ghost use Rattle.settle_output.specs.Output.{room};
 ghost use Rattle.settle_print.specs.Parts.{behind, runLine, runNext, nextLine, nextOf, filledOf, bufferAfter};

@@ -1,7 +1,5 @@
 -- All that is to be printed for an input is its output. Assumes nothing.
-use mathlib.Core.Path.{_≡_, refl}
-use mathlib.Core.List.{List}
-use Prim.Native.Nat.{ℕ}
+use Rattle.laws.specs.Usual.{_≡_, refl, List, ℕ}
 use Rattle.settle_input.specs.Input.{readOf}
 use Rattle.settle_input.specs.declared.Verdict.{Verdict}
 use Rattle.settle_input.specs.declared.Verdict.the-variants as verdicts

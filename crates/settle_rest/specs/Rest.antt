@@ -1,7 +1,6 @@
 -- What is still to be printed of `outputOf`.
-use mathlib.Core.Bool.{Bool, true, false}
-use mathlib.Core.List.{List, [], _++_}
-use Prim.Native.Nat.{ℕ, zero, suc, _+_, _-_, min}
+use Rattle.laws.specs.Usual.{Bool, true, false, List, [], _++_, ℕ, suc, _+_, _-_, min}
+use Prim.Native.Nat.{zero}
 use Rattle.settle_views.specs.declared.Ring.{Ring}
 use Rattle.settle_run.specs.Run.{steppedOf, settledOf}
 use Rattle.settle_input.specs.Input.{readOf}

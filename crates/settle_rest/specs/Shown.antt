@@ -1,8 +1,7 @@
 -- Where a run is shortened, its first steps are left out and nothing else. Assumes nothing.
-use mathlib.Core.Path.{_≡_, ap, sym, _∙_}
-use mathlib.Core.List.{List, _++_, append-assoc}
-use Prim.Native.Nat.{ℕ, zero, suc, _+_, _-_, _≤_, min}
-use native.Mathlib.Omega.{arith}
+use Rattle.laws.specs.Usual.{_≡_, sym, ap, _∙_, List, _++_, ℕ, suc, _+_, _-_, _≤_, min, arith}
+use mathlib.Core.List.{append-assoc}
+use Prim.Native.Nat.{zero}
 use Rattle.settle_views.specs.declared.Ring.{Ring}
 use Rattle.settle_output.specs.Output.{stepLine, settledLine}
 use Rattle.settle_run.specs.Run.{steppedOf}

@@ -1,7 +1,6 @@
 -- The whole output of `settle` for an input, and the paper's example. `settle_print/specs/Joined.antt` shows that it is what is printed.
-use mathlib.Core.Path.{_≡_, refl}
-use mathlib.Core.List.{List, [], _∷_, _++_}
-use Prim.Native.Nat.{ℕ, zero, suc, _+_}
+use Rattle.laws.specs.Usual.{_≡_, refl, List, [], _∷_, _++_, ℕ, suc, _+_}
+use Prim.Native.Nat.{zero}
 use Rattle.text.specs.Decimal.{decimalAt}
 use Rattle.settle_views.specs.declared.Ring.{Ring}
 use Rattle.settle_run.specs.Run.{runFrom, steppedOf, settledOf}

@@ -1,12 +1,8 @@
 -- Both counts of a run while it goes on: with the steps that are left they are those of the whole run. Assumes nothing.
-use mathlib.Core.Path.{_≡_, refl, ap, sym, _∙_}
-use mathlib.Core.Bool.{Bool, true, false, cond, false≢true}
-use mathlib.Core.List.{[], _∷_}
-use Prim.Native.Nat.{ℕ, zero, suc, _+_, _-_, _*_, _≤_}
+use Rattle.laws.specs.Usual.{_≡_, refl, sym, ap, _∙_, Bool, true, false, cond, false≢true, [], _∷_, ℕ, suc, _+_, _-_, _*_, _≤_, arith, length}
+use Prim.Native.Nat.{zero}
 use native.Mathlib.Nat.{mul-le-mul-left}
-use native.Mathlib.Omega.{arith}
 use borrow.Author.Tests.{ne-eqb}
-use lib.ListN.{length}
 use Rattle.settling.specs.Steps.{afterAll}
 use Rattle.settling.specs.Ring.{Event, pass, silence, passes, silences}
 use Rattle.settle_moves.specs.Moves.{moved}

@@ -1,7 +1,5 @@
 -- The paper's worked run, made by the definition.
-use mathlib.Core.Path.{_≡_, refl}
-use mathlib.Core.List.{[], _∷_, _++_}
-use lib.ListN.{replicate}
+use Rattle.laws.specs.Usual.{_≡_, refl, [], _∷_, _++_, replicate}
 use Rattle.settling.specs.Ring.{pass, silence}
 use Rattle.settle_views.specs.declared.Ring.{Ring}
 use Rattle.settle_run.specs.Run.{runFrom, runOf}

@@ -1,11 +1,7 @@
 -- What the smallest holder is: it holds, or nobody does. Assumes nothing.
-use mathlib.Core.Path.{_≡_, refl, ap, sym, _∙_}
-use mathlib.Core.Bool.{Bool, true, false, cond}
-use mathlib.Core.List.{List, [], _∷_, List·Memᴰ·head, List·Memᴰ·tail}
-use Prim.Native.Nat.{ℕ, _≤_}
-use native.Mathlib.Omega.{arith}
+use Rattle.laws.specs.Usual.{_≡_, refl, sym, ap, _∙_, Bool, true, false, cond, List, [], _∷_, ℕ, _≤_, arith, eqb}
+use mathlib.Core.List.{List·Memᴰ·head, List·Memᴰ·tail}
 use borrow.Author.Tests.{eqb-true, eqb-false}
-use lib.Dec.{eqb}
 use Rattle.settling.specs.Ring.{_∈_, Ascending, Views, Holds, pass, silence, Legal}
 use Rattle.settle_views.specs.Views.{smallestHolder}
 use Rattle.settle_run.specs.Run.{passBy}

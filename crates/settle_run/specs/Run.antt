@@ -1,10 +1,6 @@
 -- The run that `settle` makes. Words in quotes are paper 01's, section "settle".
-use mathlib.Core.Bool.{Bool, cond, _&&_, _||_}
-use mathlib.Core.List.{List, [], _∷_}
-use mathlib.Core.Path.{_≡_}
-use Prim.Native.Nat.{ℕ, zero, suc, _+_, _-_, _*_, _≤_}
-use lib.Dec.{eqb, leb}
-use lib.ListN.{length}
+use Rattle.laws.specs.Usual.{_≡_, Bool, cond, _&&_, _||_, List, [], _∷_, ℕ, suc, _+_, _-_, _*_, _≤_, length, eqb, leb}
+use Prim.Native.Nat.{zero}
 use Rattle.settling.specs.Steps.{afterAll}
 use Rattle.settling.specs.Ring.{next, Event, pass, silence, passes, silences}
 use Rattle.settle_moves.specs.Moves.{moved}

@@ -1,16 +1,12 @@
 -- The run that `settle` makes is a run of the ring of views; it stops at the first agreement, and at no other place; and it has at most
 -- as many steps as the theory of settling says. Assumes nothing.
-use mathlib.Core.Path.{_≡_, refl, ap, sym, subst, _∙_}
+use Rattle.laws.specs.Usual.{_≡_, refl, sym, ap, subst, _∙_, Bool, true, false, cond, List, [], _∷_, ℕ, suc, _+_, _*_, _<_, _≤_, arith, length, eqb}
 use mathlib.Core.Logic.{_⊎_, inl, inr}
-use mathlib.Core.Bool.{Bool, true, false, cond}
-use mathlib.Core.List.{List, [], _∷_, append-nil}
-use Prim.Native.Nat.{ℕ, zero, suc, _+_, _*_, _≤_, _<_}
-use native.Mathlib.Omega.{arith}
+use mathlib.Core.List.{append-nil}
+use Prim.Native.Nat.{zero}
 use native.Mathlib.Nat.{mul-suc, suc-mul}
 use native.Mathlib.Decide.{decLt}
 use borrow.Author.Tests.{leb-true, leb-false, eqb-true}
-use lib.Dec.{eqb}
-use lib.ListN.{length}
 use Rattle.laws.specs.Tests.{first, second}
 use Rattle.settling.specs.Steps.{afterAll}
 use Rattle.settling.specs.Ring.{_∈_, Views, Agreed, Event, pass, silence, move, Legal, Run, viewsAfter, passes, silences}

@@ -1,7 +1,6 @@
 // The run that `settle` makes: one step of it, and the whole with both counts.
 use settle_views::Ring;
-ghost use mathlib.Core.Path.{_≡_};
-ghost use lib.ListN.{length};
+ghost use Rattle.laws.specs.Usual.{_≡_, length};
 ghost use Rattle.settle_views.specs.Views.{stationsOf};
 ghost use Rattle.settle_run.specs.Run.{steppedOf, isRing, limitOf, over, settledOf, Bounded};
 

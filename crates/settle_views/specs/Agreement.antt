@@ -1,12 +1,8 @@
 -- All views are equal where the number of different views is at most 1. Assumes nothing.
-use mathlib.Core.Path.{_≡_, refl, ap, _∙_, sym}
-use mathlib.Core.Bool.{Bool, true, false, cond, false≢true, or-true}
-use mathlib.Core.List.{List, [], _∷_, map, List·Memᴰ·head, List·Memᴰ·tail, Memᴰ·cast}
-use Prim.Native.Nat.{ℕ, suc, _≤_, _<_}
-use native.Mathlib.Omega.{arith}
+use Rattle.laws.specs.Usual.{_≡_, refl, sym, ap, _∙_, Bool, true, false, cond, false≢true, List, [], _∷_, map, ℕ, suc, _<_, _≤_, arith, length, eqb}
+use mathlib.Core.Bool.{or-true}
+use mathlib.Core.List.{List·Memᴰ·head, List·Memᴰ·tail, Memᴰ·cast}
 use borrow.Author.Tests.{eqb-true, eq-eqb}
-use lib.Dec.{eqb}
-use lib.ListN.{length}
 use Rattle.settling.specs.Ring.{_∈_, Views, Agreed}
 use Rattle.settle_views.specs.Views.{member, different, differentViews}
 

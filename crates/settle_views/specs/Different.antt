@@ -1,14 +1,9 @@
 -- Laws for counting the different views by what was seen so far, from the last station to the first. Assumes nothing.
-use mathlib.Core.Path.{_≡_, refl, ap, _∙_, sym}
-use mathlib.Core.Bool.{Bool, true, false, not, _&&_, _||_}
-use mathlib.Core.List.{List, [], _∷_, map}
-use Prim.Native.Nat.{ℕ, suc, _+_, _-_, _≤_, _<_}
+use Rattle.laws.specs.Usual.{_≡_, refl, sym, ap, _∙_, Bool, true, false, not, _&&_, _||_, List, [], _∷_, map, ℕ, suc, _+_, _-_, _<_, _≤_, arith, length, getD, drop, set, replicate, eqb}
 use native.Mathlib.Numerals.{add-one}
 use native.Mathlib.Decide.{ℕ-discrete}
-use native.Mathlib.Omega.{arith}
 use borrow.Author.Tests.{eq-eqb, ne-eqb, not-true, not-false, eqb-false}
-use lib.Dec.{eqb}
-use lib.ListN.{length, getD, drop, set, replicate, getD-replicate, length-set}
+use lib.ListN.{getD-replicate, length-set}
 use lib.Seq.{getD-set-same, getD-set-other}
 use Rattle.laws.specs.Tests.{first, second}
 use Rattle.settle_views.specs.Views.{stationsFrom, member, different}

@@ -1,13 +1,9 @@
 -- The stations of a list of views: a number is one of them where its view is not 0, and they ascend. Assumes nothing.
-use mathlib.Core.Path.{_≡_, refl, ap, _∙_, subst}
-use mathlib.Core.Bool.{Bool, true, false, cond}
-use mathlib.Core.List.{List, [], _∷_, map, List·Memᴰ·head, List·Memᴰ·tail}
-use Prim.Native.Nat.{ℕ, zero, suc, _+_, _≤_}
-use native.Mathlib.Omega.{arith}
+use Rattle.laws.specs.Usual.{_≡_, refl, ap, subst, _∙_, Bool, true, false, cond, List, [], _∷_, map, ℕ, suc, _+_, _≤_, arith, length, getD, eqb}
+use mathlib.Core.List.{List·Memᴰ·head, List·Memᴰ·tail}
+use Prim.Native.Nat.{zero}
 use native.Mathlib.Nat.{add-zero}
 use borrow.Author.Tests.{eqb-true, eqb-false, eq-eqb, ne-eqb}
-use lib.Dec.{eqb}
-use lib.ListN.{length, getD}
 use Rattle.settling.specs.Ring.{_∈_, Ascending}
 use Rattle.settle_views.specs.Views.{stationsFrom}
 

@@ -1,9 +1,6 @@
 -- A ring whose every view is one of its stations. Assumes nothing.
-use mathlib.Core.Path.{_≡_, refl, ap, _∙_, sym, subst}
-use mathlib.Core.Bool.{Bool, true, false, false≢true}
-use mathlib.Core.List.{List, [], _∷_, List·Memᴰ·head, List·Memᴰ·tail}
-use Prim.Native.Nat.{ℕ, suc}
-use native.Mathlib.Omega.{arith}
+use Rattle.laws.specs.Usual.{_≡_, refl, sym, ap, subst, _∙_, Bool, true, false, false≢true, List, [], _∷_, ℕ, suc, arith}
+use mathlib.Core.List.{List·Memᴰ·head, List·Memᴰ·tail}
 use native.Mathlib.Nat.{zero-add}
 use native.Mathlib.Decide.{ℕ-discrete}
 use borrow.Author.Tests.{eq-eqb, ne-eqb, not-true, eqb-false}

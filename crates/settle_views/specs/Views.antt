@@ -1,9 +1,5 @@
 -- The ring that `settle` works on, and what is looked up in it. Words in quotes are paper 01's.
-use mathlib.Core.Bool.{Bool, false, cond, not, _||_}
-use mathlib.Core.List.{List, [], _∷_, map}
-use Prim.Native.Nat.{ℕ, suc}
-use lib.Dec.{eqb}
-use lib.ListN.{getD}
+use Rattle.laws.specs.Usual.{Bool, false, cond, not, _||_, List, [], _∷_, map, ℕ, suc, getD, eqb}
 use Rattle.settling.specs.Ring.{Views}
 use Rattle.settle_views.specs.declared.Ring.{Ring}
 

@@ -1,6 +1,5 @@
 // A ring of token views alone, and what is looked up in it.
-ghost use mathlib.Core.Path.{_≡_};
-ghost use lib.ListN.{length};
+ghost use Rattle.laws.specs.Usual.{_≡_, length};
 ghost use Rattle.settle_views.specs.Views.{stationsOf, viewsOf, smallestHolder, differentViews, unlistedIn};
 
 // The view of each station number, 0 where no such station is listed.

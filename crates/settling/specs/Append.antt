@@ -1,8 +1,5 @@
 -- Laws of lists of inputs, and of counts of events, that are put together from two parts.
-use mathlib.Core.Path.{_≡_, refl, sym}
-use mathlib.Core.List.{List, [], _∷_, _++_}
-use Prim.Native.Nat.{_+_}
-use native.Mathlib.Omega.{arith}
+use Rattle.laws.specs.Usual.{_≡_, refl, sym, List, [], _∷_, _++_, _+_, arith}
 use native.Mathlib.Nat.{zero-add}
 use Rattle.settling.specs.Steps.{afterAll, EachFinds}
 use Rattle.settling.specs.Ring.{Event, pass, silence, passes}

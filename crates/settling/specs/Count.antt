@@ -1,13 +1,8 @@
 -- Sums and counts over the numbers of a list.
-use mathlib.Core.Path.{_≡_, refl, sym, ap}
-use mathlib.Core.Bool.{cond}
-use mathlib.Core.List.{List, [], _∷_, List·Memᴰ·head, List·Memᴰ·tail}
-use Prim.Native.Nat.{ℕ, _+_, _*_, _≤_, _<_}
-use native.Mathlib.Omega.{arith}
+use Rattle.laws.specs.Usual.{_≡_, refl, sym, ap, cond, List, [], _∷_, ℕ, _+_, _*_, _<_, _≤_, arith, length, eqb}
+use mathlib.Core.List.{List·Memᴰ·head, List·Memᴰ·tail}
 use native.Mathlib.Nat.{le-refl, le-antisymm, le-of-eq, mul-suc, mul-zero}
 use native.Mathlib.Decide.{ℕ-discrete, decLt}
-use lib.ListN.{length}
-use lib.Dec.{eqb}
 use Rattle.settling.specs.Ring.{_∈_, Ascending}
 use Rattle.settling.specs.Next.{by-eqb}
 

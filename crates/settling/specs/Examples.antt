@@ -1,11 +1,7 @@
 -- The paper's worked cases, run through the definitions; and that the theorems' premises can be met.
-use mathlib.Core.Path.{_≡_, refl, sym, subst, _∙_}
-use mathlib.Core.Bool.{cond}
+use Rattle.laws.specs.Usual.{_≡_, refl, sym, subst, _∙_, cond, List, [], _∷_, ℕ, arith, eqb}
 use mathlib.Core.Logic.{inl}
-use mathlib.Core.List.{List, [], _∷_, List·Memᴰ·head, List·Memᴰ·tail}
-use Prim.Native.Nat.{ℕ}
-use native.Mathlib.Omega.{arith}
-use lib.Dec.{eqb}
+use mathlib.Core.List.{List·Memᴰ·head, List·Memᴰ·tail}
 use Rattle.settling.specs.Ring.{_∈_, Stations, next, Views, Within, Agreed, pass, silence, viewAfterPass, move, Legal, Run, viewsAfter, Event}
 use Rattle.settling.specs.First.{FirstAgreement}
 use Rattle.settling.specs.Next.{laws-of, ascending-cons}

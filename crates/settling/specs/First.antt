@@ -1,9 +1,8 @@
 -- The first agreement in a list of inputs, as a split of the list; that there is one such split of every list, and only one.
 -- For any kind of state and input: the ring of views has it with views and events (`Ring`).
-use mathlib.Core.Path.{_≡_, refl, sym, ap, ap₂, subst, _∙_}
+use Rattle.laws.specs.Usual.{_≡_, refl, sym, ap, ap₂, subst, _∙_, List, [], _∷_, _++_, ℕ}
 use mathlib.Core.Logic.{_⊎_, inl, inr}
-use mathlib.Core.List.{List, [], _∷_, _++_, List·Memᴰ·head, List·Memᴰ·tail, nil≢cons, head-eq-of-cons-eq, tail-eq-of-cons-eq}
-use Prim.Native.Nat.{ℕ}
+use mathlib.Core.List.{List·Memᴰ·head, List·Memᴰ·tail, nil≢cons, head-eq-of-cons-eq, tail-eq-of-cons-eq}
 use native.Mathlib.Decide.{ℕ-discrete}
 use Rattle.settling.specs.Steps.{afterAll, EachFinds}
 use Rattle.settling.specs.Ring.{_∈_, Views, Agreed}

@@ -1,9 +1,7 @@
 -- What an event does to one view, by cases, in a ring with the laws of next.
-use mathlib.Core.Path.{_≡_, refl, sym, ap, _∙_}
+use Rattle.laws.specs.Usual.{_≡_, refl, sym, ap, _∙_, List, ℕ, _<_, _≤_, arith}
 use mathlib.Core.Logic.{_⊎_, inl, inr}
-use mathlib.Core.List.{List, Memᴰ·cast}
-use Prim.Native.Nat.{ℕ, _≤_, _<_}
-use native.Mathlib.Omega.{arith}
+use mathlib.Core.List.{Memᴰ·cast}
 use native.Mathlib.Decide.{decLt}
 use Rattle.settling.specs.Ring.{_∈_, next, Views, Within, Agreed, Event, pass, silence, viewAfterPass, move, Legal}
 use Rattle.settling.specs.Next.{NextLaws, by-eqb}

@@ -1,11 +1,7 @@
 -- How many passes can come before the views agree: at most n(n - 1)/2.
-use mathlib.Core.Path.{_≡_, sym, ap, _∙_}
+use Rattle.laws.specs.Usual.{_≡_, sym, ap, _∙_, List, [], _∷_, ℕ, suc, _+_, _*_, _<_, _≤_, arith, length}
 use mathlib.Core.Logic.{_⊎_, inl, inr}
-use mathlib.Core.List.{List, [], _∷_}
-use Prim.Native.Nat.{ℕ, suc, _+_, _*_, _≤_, _<_}
-use native.Mathlib.Omega.{arith}
 use native.Mathlib.Decide.{decLe, decLt}
-use lib.ListN.{length}
 use Rattle.settling.specs.Ring.{_∈_, Ascending, next, Views, Within, Event, pass, silence, viewAfterPass, move, Legal, passes}
 use Rattle.settling.specs.Next.{NextLaws}
 use Rattle.settling.specs.Count.{only, only-yes, only-le, tally, tally-yes, tally-no, tally-most, tally-le, sum-le, sum-lt}

@@ -1,13 +1,9 @@
 -- A count of what a ring has left to do before its views agree, and how large it can be. Each pass that does not make the views
 -- agree lowers the count, and no silence raises it (`Passes`).
-use mathlib.Core.Path.{_≡_, refl, ap}
+use Rattle.laws.specs.Usual.{_≡_, refl, ap, List, [], _∷_, ℕ, suc, _+_, _*_, _<_, _≤_, max, arith, length}
 use mathlib.Core.Logic.{Dec·and, Dec·not}
-use mathlib.Core.List.{List, [], _∷_}
-use Prim.Native.Nat.{ℕ, suc, _+_, _*_, _≤_, _<_, max}
-use native.Mathlib.Omega.{arith}
 use native.Mathlib.Nat.{le-refl, mul-suc, suc-mul}
 use native.Mathlib.Decide.{decLe, decLt, ℕ-discrete}
-use lib.ListN.{length}
 use Rattle.settling.specs.Ring.{_∈_, Ascending, next, Views}
 use Rattle.settling.specs.Next.{NextLaws}
 use Rattle.settling.specs.Count.{only, only-yes, only-no, only-most, tally, tally-yes, tally-no, tally-most, tally-le}

@@ -1,11 +1,7 @@
 -- The ring of token views: the definitions alone. Words in quotes are the paper's: its sections "The token view and the watch" and
 -- "The ring in demand 3", and demand 3.
-use mathlib.Core.Path.{_≡_}
-use mathlib.Core.Bool.{cond}
-use mathlib.Core.List.{List, [], _∷_, List·Memᴰ}
-use Prim.Native.Nat.{ℕ, suc, _+_, _<_, min}
-use lib.ListN.{length}
-use lib.Dec.{ltb, eqb}
+use Rattle.laws.specs.Usual.{_≡_, cond, List, [], _∷_, ℕ, suc, _+_, _<_, min, length, eqb, ltb}
+use mathlib.Core.List.{List·Memᴰ}
 use Rattle.settling.specs.Steps.{afterAll, EachFinds}
 
 -- x is one of the numbers of the list

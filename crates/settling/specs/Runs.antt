@@ -1,9 +1,6 @@
 -- A run before the first agreement, and a run after it: each goes on as one of its kind after its first event.
-use mathlib.Core.Path.{_≡_, refl, ap}
+use Rattle.laws.specs.Usual.{_≡_, refl, ap, List, [], _∷_, ℕ, _<_, arith}
 use mathlib.Core.Logic.{_⊎_, inl, inr}
-use mathlib.Core.List.{List, [], _∷_}
-use Prim.Native.Nat.{ℕ, _<_}
-use native.Mathlib.Omega.{arith}
 use native.Mathlib.Decide.{decLt}
 use Rattle.settling.specs.Steps.{EachFinds}
 use Rattle.settling.specs.Ring.{next, Views, Within, Agreed, Event, pass, silence, viewAfterPass, move, Run, viewsAfter}

@@ -1,7 +1,5 @@
 -- Views are read only at the numbers of the ring: views that are the same there have the same runs.
-use mathlib.Core.Path.{_≡_, sym, ap, _∙_}
-use mathlib.Core.List.{List, [], _∷_}
-use Prim.Native.Nat.{ℕ}
+use Rattle.laws.specs.Usual.{_≡_, sym, ap, _∙_, List, [], _∷_, ℕ}
 use Rattle.settling.specs.Ring.{_∈_, next, Views, Agreed, Event, pass, silence, viewAfterPass, move, Legal, Run, viewsAfter}
 use Rattle.settling.specs.Runs.{Differing}
 

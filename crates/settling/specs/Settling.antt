@@ -1,11 +1,8 @@
 -- The settling of token views: the final statements.
-use mathlib.Core.Path.{_≡_, refl, sym, ap, subst, _∙_}
+use Rattle.laws.specs.Usual.{_≡_, refl, sym, ap, subst, _∙_, List, [], _++_, ℕ, suc, _+_, _-_, _*_, _≤_, arith, length}
 use mathlib.Core.Logic.{_⊎_, inl, inr}
-use mathlib.Core.List.{List, [], _++_}
-use Prim.Native.Nat.{ℕ, zero, suc, _+_, _-_, _*_, _≤_}
-use native.Mathlib.Omega.{arith}
+use Prim.Native.Nat.{zero}
 use native.Mathlib.Nat.{mul-suc, suc-mul, mul-one, mul-le-mul-left}
-use lib.ListN.{length}
 use Rattle.settling.specs.Ring.{_∈_, Stations, next, Views, Within, Agreed, Event, move, Legal, Run, viewsAfter, passes, silences, given}
 use Rattle.settling.specs.First.{FirstAgreement}
 use Rattle.settling.specs.Next.{NextLaws, laws-of}

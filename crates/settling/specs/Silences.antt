@@ -1,13 +1,9 @@
 -- How many silences can come before the views agree: at most 2n - 3.
 -- The station with the smallest number decides it. While it names itself it holds, and no silence can come. Else each silence moves
 -- its view up, until it names the largest number, and then itself.
-use mathlib.Core.Path.{_≡_, refl, sym, ap, _∙_}
+use Rattle.laws.specs.Usual.{_≡_, refl, sym, ap, _∙_, List, [], _∷_, ℕ, suc, _+_, _-_, _*_, _<_, _≤_, arith, length}
 use mathlib.Core.Logic.{_⊎_, inl, inr}
-use mathlib.Core.List.{List, [], _∷_}
-use Prim.Native.Nat.{ℕ, suc, _+_, _-_, _*_, _≤_, _<_}
-use native.Mathlib.Omega.{arith}
 use native.Mathlib.Decide.{decLt}
-use lib.ListN.{length}
 use Rattle.settling.specs.Ring.{_∈_, next, Views, Within, Event, pass, silence, viewAfterPass, move, silences}
 use Rattle.settling.specs.Next.{NextLaws}
 use Rattle.settling.specs.Count.{above, above-falls, above-below-length}

@@ -1,10 +1,8 @@
 -- Settling carried over to any machine with stations inside: if each input moves the views by one pass, by one silence or not at all,
 -- then all that is proved of the ring of views holds of the machine.
-use mathlib.Core.Path.{_≡_, refl, sym, ap, subst, _∙_}
+use Rattle.laws.specs.Usual.{_≡_, refl, sym, ap, subst, _∙_, List, [], _∷_, _++_, ℕ, _+_, _-_, _*_, _≤_, length}
 use mathlib.Core.Logic.{_⊎_, inl, inr}
-use mathlib.Core.List.{List, [], _∷_, _++_, append-assoc}
-use Prim.Native.Nat.{ℕ, _+_, _-_, _*_, _≤_}
-use lib.ListN.{length}
+use mathlib.Core.List.{append-assoc}
 use Rattle.settling.specs.Steps.{afterAll, EachFinds}
 use Rattle.settling.specs.Ring.{_∈_, Stations, Views, Within, Agreed, Event, move, Legal, Run, viewsAfter, passes, silences, given}
 use Rattle.settling.specs.First.{FirstAgreement}

@@ -1,13 +1,8 @@
 -- From the first agreement on: no silence comes, and n passes in a row give each station the token once.
-use mathlib.Core.Path.{_≡_, refl, sym, ap, _∙_}
-use mathlib.Core.Bool.{cond}
-use mathlib.Core.List.{List, [], _∷_}
-use Prim.Native.Nat.{ℕ, zero, suc, _+_, _*_, _≤_, _<_}
-use native.Mathlib.Omega.{arith}
+use Rattle.laws.specs.Usual.{_≡_, refl, sym, ap, _∙_, cond, List, [], _∷_, ℕ, suc, _+_, _*_, _<_, _≤_, arith, length, eqb}
+use Prim.Native.Nat.{zero}
 use native.Mathlib.Nat.{zero-mul, one-mul, suc-mul}
 use native.Mathlib.Decide.{decLe, decLt, ℕ-discrete}
-use lib.ListN.{length}
-use lib.Dec.{eqb}
 use Rattle.settling.specs.Ring.{_∈_, Ascending, next, Views, Within, Agreed, Event, pass, silence, viewAfterPass}
 use Rattle.settling.specs.Ring.{Legal, viewsAfter, passes, silences, given}
 use Rattle.settling.specs.Next.{NextLaws, by-eqb}

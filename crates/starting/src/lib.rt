@@ -4,9 +4,7 @@ use station::Phase;
 use station::Settings;
 use station::Station;
 use station::Switched;
-ghost use mathlib.Core.Path.{_≡_};
-ghost use mathlib.Core.Bool.{_&&_};
-ghost use lib.Dec.{ltb};
+ghost use Rattle.laws.specs.Usual.{_≡_, _&&_, ltb};
 ghost use Rattle.frame_reading.specs.Reading.{isStation};
 ghost use Rattle.station.specs.Rules.Starting.{startOf, stopOf};
 

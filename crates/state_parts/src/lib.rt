@@ -5,10 +5,8 @@ use panel::Panel;
 use station::Gathering;
 use station::Phase;
 use station::Station;
-ghost use mathlib.Core.Path.{_≡_};
-ghost use mathlib.Core.Bool.{cond};
-ghost use lib.Dec.{eqb};
-ghost use Rattle.panel.specs.Panel.{taken};
+ghost use Rattle.laws.specs.Usual.{_≡_, cond, eqb};
+ghost use Rattle.panel.specs.Panel.{afterTaking};
 ghost use Rattle.station.specs.Rules.Data.{without as withoutOf};
 ghost use Rattle.station.specs.Rules.State.{isOff, isParticipating, nothing, holds as holdsOf};
 ghost use Rattle.station.specs.Rules.Token.{takes as takesOf};
@@ -81,7 +79,7 @@ pub fn holds(station: Station) -> bool
 
 // The panel, where a test says whether there is a taking.
 pub fn taken_if(taking: bool, panel: Panel) -> Panel
-    ensures { λ r. ⌜ r ≡ cond taking (taken panel) panel ⌝ }
+    ensures { λ r. ⌜ r ≡ cond taking (afterTaking panel) panel ⌝ }
 {
     if taking { panel::take(panel) } else { panel }
 }

@@ -1,11 +1,8 @@
 -- What a station does, before anything is proved of all stations: the law by which the ring of demand 3 sees a token frame move a view, and the
 -- rules worked out for stations 1, 2 and 3, each against numbers that the paper's sentences give. Assumes nothing.
-use mathlib.Core.Path.{_≡_, refl, sym}
-use mathlib.Core.Bool.{true, false}
-use mathlib.Core.List.{List, []}
-use Prim.Native.Nat.{ℕ, zero, suc}
+use Rattle.laws.specs.Usual.{_≡_, refl, sym, true, false, List, [], ℕ, suc, getD, replicate}
+use Prim.Native.Nat.{zero}
 use native.Mathlib.Decide.{ℕ-discrete}
-use lib.ListN.{getD, replicate}
 use borrow.Author.Tests.{eq-eqb, ne-eqb}
 use Rattle.frame.specs.Positions.{DNA, CBN}
 use Rattle.frame.specs.declared.Refusal.the-variants as refusals

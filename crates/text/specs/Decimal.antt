@@ -1,8 +1,6 @@
 -- Numbers as text in ASCII.
-use Prim.Native.Nat.{ℕ, zero, suc, _+_, _/_, _%_}
-use mathlib.Core.Bool.{Bool, true, false}
-use mathlib.Core.List.{List, [], _∷_, _++_}
-use lib.Dec.{ltb}
+use Rattle.laws.specs.Usual.{Bool, true, false, List, [], _∷_, _++_, ℕ, suc, _+_, _/_, _%_, ltb}
+use Prim.Native.Nat.{zero}
 
 -- the last digit of a number behind the others, which stand there only where the number has more than one
 abbrev pub behind : Bool → List ℕ → ℕ → List ℕ

@@ -1,9 +1,7 @@
 -- Laws of lines. Assumes nothing.
-use mathlib.Core.Path.{_≡_, ap, _∙_, sym}
-use mathlib.Core.List.{List, [], _∷_, _++_, append-assoc, append-nil}
-use Prim.Native.Nat.{ℕ, _+_, _*_, _≤_}
-use native.Mathlib.Omega.{arith}
-use lib.ListN.{length, length-append}
+use Rattle.laws.specs.Usual.{_≡_, sym, ap, _∙_, List, [], _∷_, _++_, ℕ, _+_, _*_, _≤_, arith, length}
+use mathlib.Core.List.{append-assoc, append-nil}
+use lib.ListN.{length-append}
 use Rattle.text.specs.Decimal.{decimalOf}
 use Rattle.text.specs.Digits.{at-most}
 use Rattle.text.specs.Lines.{comma, numbersOf}

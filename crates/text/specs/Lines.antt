@@ -1,6 +1,5 @@
 -- Lines of text: a word, then numbers in decimal with a comma in front of each, then a line feed.
-use Prim.Native.Nat.{ℕ}
-use mathlib.Core.List.{List, [], _∷_, _++_}
+use Rattle.laws.specs.Usual.{List, [], _∷_, _++_, ℕ}
 use Rattle.text.specs.Decimal.{decimalOf}
 
 abbrev pub space : ℕ

@@ -1,8 +1,5 @@
 // Numbers and lines as text in ASCII, written into a lent buffer.
-ghost use mathlib.Core.Path.{_≡_};
-ghost use mathlib.Core.List.{_∷_};
-ghost use Prim.Native.Nat.{_+_, _*_, _≤_};
-ghost use lib.ListN.{length};
+ghost use Rattle.laws.specs.Usual.{_≡_, _∷_, _+_, _*_, _≤_, length};
 ghost use Rattle.copying.specs.Pasted.{pasted};
 ghost use Rattle.text.specs.Decimal.{decimalOf};
 ghost use Rattle.text.specs.Lines.{comma, numbersOf, lineOf};

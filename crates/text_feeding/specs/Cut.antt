@@ -1,9 +1,5 @@
 -- Every text has a first line feed, or none. Assumes nothing.
-use mathlib.Core.Path.{_≡_, refl, ap}
-use mathlib.Core.Bool.{Bool, true, false}
-use mathlib.Core.List.{List, [], _∷_, _++_}
-use Prim.Native.Nat.{ℕ}
-use lib.Dec.{eqb}
+use Rattle.laws.specs.Usual.{_≡_, refl, ap, Bool, true, false, List, [], _∷_, _++_, ℕ, eqb}
 use borrow.Author.Tests.{eqb-true}
 use Rattle.text.specs.Lines.{lineFeed}
 use Rattle.text_scanning.specs.Scanning.{NoFeed}

@@ -1,8 +1,6 @@
 -- A text may come in whatever parts; a line may come in whatever parts. Assumes nothing.
-use mathlib.Core.Path.{_≡_, refl, ap, sym, _∙_}
-use mathlib.Core.Bool.{Bool, cond}
-use mathlib.Core.List.{List, [], _∷_, _++_, append-assoc}
-use Prim.Native.Nat.{ℕ}
+use Rattle.laws.specs.Usual.{_≡_, refl, sym, ap, _∙_, Bool, cond, List, [], _∷_, _++_, ℕ}
+use mathlib.Core.List.{append-assoc}
 use Rattle.text.specs.Lines.{lineFeed}
 use Rattle.text_scanning.specs.Scanning.{NoFeed}
 use Rattle.text_feeding.specs.Feeding.{Program, fed, answered, fedAll, answeredAll, pushedAll}

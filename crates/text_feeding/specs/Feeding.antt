@@ -1,10 +1,5 @@
 -- A text that comes octet by octet to a program that answers it line by line.
-use Prim.Native.Nat.{ℕ, _-_, _≤_, _<_}
-use mathlib.Core.Path.{_≡_}
-use mathlib.Core.Bool.{Bool, true, false, cond, _&&_}
-use mathlib.Core.List.{List, [], _∷_, _++_}
-use lib.Dec.{eqb, ltb}
-use lib.ListN.{length, getD, take, drop}
+use Rattle.laws.specs.Usual.{_≡_, Bool, true, false, cond, _&&_, List, [], _∷_, _++_, ℕ, _-_, _<_, _≤_, length, getD, take, drop, eqb, ltb}
 use Rattle.text.specs.Lines.{lineFeed}
 use Rattle.text_scanning.specs.Scanning.{pushAll}
 

@@ -1,10 +1,7 @@
 -- A text that was put in front of a buffer. Assumes nothing.
-use mathlib.Core.Path.{_≡_, ap, _∙_}
-use mathlib.Core.List.{List}
-use Prim.Native.Nat.{ℕ, _-_, _≤_}
+use Rattle.laws.specs.Usual.{_≡_, ap, _∙_, List, ℕ, _-_, _≤_, arith, length, take, drop}
 use native.Mathlib.Nat.{sub-zero}
-use native.Mathlib.Omega.{arith}
-use lib.ListN.{length, take, drop, length-append}
+use lib.ListN.{length-append}
 use Rattle.copying.specs.Laws.{paste-front, front-read as front-taken}
 use Rattle.copying.specs.Pasted.{pasted}
 

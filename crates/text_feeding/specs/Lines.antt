@@ -1,10 +1,6 @@
 -- A text as its lines: whoever does with each line what the whole line means does so with all lines of every text, in their order. Assumes
 -- nothing.
-use mathlib.Core.Path.{_≡_, refl, ap, ap₂, sym, _∙_}
-use mathlib.Core.Bool.{Bool, true, false, cond}
-use mathlib.Core.List.{List, [], _∷_, _++_}
-use Prim.Native.Nat.{ℕ}
-use lib.Dec.{eqb}
+use Rattle.laws.specs.Usual.{_≡_, refl, sym, ap, ap₂, _∙_, Bool, true, false, cond, List, [], _∷_, _++_, ℕ, eqb}
 use borrow.Author.Tests.{eqb-true}
 use Rattle.text.specs.Lines.{lineFeed}
 use Rattle.text_scanning.specs.Scanning.{NoFeed}

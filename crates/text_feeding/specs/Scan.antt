@@ -1,13 +1,11 @@
 -- A part of a text that is scanned from a place on, up to its next line feed or its end, was taken octet by octet. Assumes nothing.
-use mathlib.Core.Path.{_≡_, refl, ap, sym, _∙_}
-use mathlib.Core.Bool.{Bool, true, false, cond, _&&_, and-false, true≢false}
-use mathlib.Core.List.{List, [], _∷_, _++_, append-nil}
-use Prim.Native.Nat.{ℕ, zero, suc, _+_, _-_, _≤_, _<_}
+use Rattle.laws.specs.Usual.{_≡_, refl, sym, ap, _∙_, Bool, true, false, cond, _&&_, List, [], _∷_, _++_, ℕ, suc, _+_, _-_, _<_, _≤_, arith, length, getD, take, drop, eqb, ltb}
+use mathlib.Core.Bool.{and-false, true≢false}
+use mathlib.Core.List.{append-nil}
+use Prim.Native.Nat.{zero}
 use native.Mathlib.Decide.{decLt}
 use native.Mathlib.Nat.{sub-zero}
-use native.Mathlib.Omega.{arith}
-use lib.Dec.{eqb, ltb}
-use lib.ListN.{length, getD, take, drop, length-append, length-take, length-drop}
+use lib.ListN.{length-append, length-take, length-drop}
 use lib.Seq.{take-all, take-add, take-take, take-append-add, getD-append-seam, getD-drop}
 use borrow.Author.Tests.{lt-ltb, le-ltb}
 use Rattle.laws.specs.Tests.{both, second}

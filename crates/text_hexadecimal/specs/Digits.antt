@@ -1,9 +1,5 @@
 -- A hexadecimal digit is below 16. Assumes nothing.
-use mathlib.Core.Path.{_≡_, refl}
-use mathlib.Core.Bool.{Bool, true, false, cond}
-use Prim.Native.Nat.{ℕ, _-_, _<_, _≤_}
-use native.Mathlib.Omega.{arith}
-use lib.Dec.{leb}
+use Rattle.laws.specs.Usual.{_≡_, refl, Bool, true, false, cond, ℕ, _-_, _<_, _≤_, arith, leb}
 use borrow.Author.Tests.{leb-true}
 use Rattle.laws.specs.Tests.{second}
 use Rattle.text_hexadecimal.specs.Hexadecimal.{between, digitOf}

@@ -1,8 +1,5 @@
 -- A line of hexadecimal digits as the octets that it spells: "one frame a line in hexadecimal (either case, no separators, any length)".
-use Prim.Native.Nat.{ℕ, _+_, _*_, _-_}
-use mathlib.Core.Bool.{Bool, cond, _&&_}
-use mathlib.Core.List.{List, [], _∷_}
-use lib.Dec.{leb}
+use Rattle.laws.specs.Usual.{Bool, cond, _&&_, List, [], _∷_, ℕ, _+_, _-_, _*_, leb}
 use Rattle.text_hexadecimal.specs.declared.Hexadecimal.{Hexadecimal}
 use Rattle.text_hexadecimal.specs.declared.Hexadecimal.the-variants.{Digit, Other}
 

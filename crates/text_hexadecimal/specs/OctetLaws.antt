@@ -1,12 +1,8 @@
 -- Laws of hexadecimal digits. Assumes nothing.
-use mathlib.Core.Path.{_≡_, refl, ap, ap₂, sym, _∙_}
-use mathlib.Core.Bool.{Bool, true, false, cond, _&&_}
-use mathlib.Core.List.{List, [], _∷_}
-use Prim.Native.Nat.{ℕ, zero, suc, _+_, _*_, _/_, _%_, _≤_, _<_}
+use Rattle.laws.specs.Usual.{_≡_, refl, sym, ap, ap₂, _∙_, Bool, true, false, cond, _&&_, List, [], _∷_, ℕ, suc, _+_, _*_, _/_, _%_, _<_, _≤_, arith, length, getD, take, drop, eqb}
+use Prim.Native.Nat.{zero}
 use native.Mathlib.Numerals.{add-one}
-use native.Mathlib.Omega.{arith}
-use lib.Dec.{eqb}
-use lib.ListN.{length, getD, take, drop, drop-of-length-le}
+use lib.ListN.{drop-of-length-le}
 use lib.Seq.{drop-cons, take-nil, take-all, length-take-le}
 use borrow.Author.Tests.{eq-eqb}
 use Rattle.laws.specs.Tests.{both, first}

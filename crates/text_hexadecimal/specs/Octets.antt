@@ -1,8 +1,5 @@
 -- The octets that hexadecimal digits spell.
-use Prim.Native.Nat.{ℕ, _+_, _*_}
-use mathlib.Core.Bool.{Bool, true, false, _&&_}
-use mathlib.Core.List.{List, [], _∷_}
-use lib.ListN.{getD}
+use Rattle.laws.specs.Usual.{Bool, true, false, _&&_, List, [], _∷_, ℕ, _+_, _*_, getD}
 use Rattle.text_hexadecimal.specs.Hexadecimal.{Spelled, octets, neither, digitOf, spelled}
 use Rattle.text_hexadecimal.specs.declared.Hexadecimal.{Hexadecimal}
 use Rattle.text_hexadecimal.specs.declared.Hexadecimal.the-variants.{Digit, Other}

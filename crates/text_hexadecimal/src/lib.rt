@@ -1,7 +1,5 @@
 // Hexadecimal digits, and the octets that they spell.
-ghost use mathlib.Core.Path.{_≡_};
-ghost use Prim.Native.Nat.{_+_, _*_, _<_};
-ghost use lib.ListN.{length, take};
+ghost use Rattle.laws.specs.Usual.{_≡_, _+_, _*_, _<_, length, take};
 ghost use Rattle.copying.specs.Pasted.{pasted};
 ghost use Rattle.text_hexadecimal.specs.Hexadecimal.{digitOf};
 ghost use Rattle.text_hexadecimal.specs.Octets.{isHexadecimal, allHexadecimal, valueOf, octetAt, octetsOf};

@@ -1,13 +1,9 @@
 -- Laws of the place of a mark. Assumes nothing.
-use mathlib.Core.Path.{_≡_, refl, ap, ap₂, sym, _∙_}
-use mathlib.Core.Bool.{Bool, true, false, cond}
-use mathlib.Core.List.{List, [], _∷_, _++_}
-use Prim.Native.Nat.{ℕ, zero, suc, _+_, _≤_, _<_}
+use Rattle.laws.specs.Usual.{_≡_, refl, sym, ap, ap₂, _∙_, Bool, true, false, cond, List, [], _∷_, _++_, ℕ, suc, _+_, _<_, _≤_, arith, length, getD, take, drop, eqb}
+use Prim.Native.Nat.{zero}
 use native.Mathlib.Numerals.{add-one}
-use native.Mathlib.Omega.{arith}
 use borrow.Author.Tests.{eq-eqb, eqb-true}
-use lib.Dec.{eqb}
-use lib.ListN.{length, getD, take, drop, length-append}
+use lib.ListN.{length-append}
 use lib.Seq.{split-at, take-at, drop-at, drop-drop}
 use Rattle.text_reading.specs.Marks.{before, upTo, behind}
 

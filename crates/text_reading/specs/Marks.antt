@@ -1,9 +1,5 @@
 -- The place of a mark among octets.
-use Prim.Native.Nat.{ℕ, suc, _+_}
-use mathlib.Core.Bool.{Bool, cond}
-use mathlib.Core.List.{List, [], _∷_}
-use lib.Dec.{eqb, ltb}
-use lib.ListN.{length, take, drop}
+use Rattle.laws.specs.Usual.{Bool, cond, List, [], _∷_, ℕ, suc, _+_, length, take, drop, eqb, ltb}
 
 -- the number of octets before the first mark, or of all where there is none
 abbrev pub before : ℕ → List ℕ → ℕ

@@ -1,15 +1,11 @@
 -- Laws of the parts of a line, for code that goes through it from place to place. Assumes nothing.
-use mathlib.Core.Path.{_≡_, refl, ap, ap₂, sym, _∙_}
-use mathlib.Core.Bool.{Bool, true, false, cond}
-use mathlib.Core.List.{List, [], _∷_}
-use Prim.Native.Nat.{ℕ, zero, suc, _+_, _≤_, _<_}
+use Rattle.laws.specs.Usual.{_≡_, refl, sym, ap, ap₂, _∙_, Bool, true, false, cond, List, [], _∷_, ℕ, suc, _+_, _<_, _≤_, arith, length, getD, take, drop, eqb, leb, ltb}
+use Prim.Native.Nat.{zero}
 use native.Mathlib.Decide.{decLe, decLt}
 use native.Mathlib.Nat.{add-zero}
 use native.Mathlib.Numerals.{add-one}
-use native.Mathlib.Omega.{arith}
 use borrow.Author.Tests.{le-leb, lt-leb, lt-ltb, le-ltb}
-use lib.Dec.{eqb, leb, ltb}
-use lib.ListN.{length, getD, take, drop, length-take, length-drop}
+use lib.ListN.{length-take, length-drop}
 use lib.Seq.{drop-drop, getD-drop}
 use Rattle.text_reading.specs.Marks.{before, upTo}
 use Rattle.text_reading.specs.MarkLaws.{before-most}

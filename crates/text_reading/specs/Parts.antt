@@ -1,9 +1,5 @@
 -- The parts of a line between marks: its words between spaces, its fields between commas.
-use Prim.Native.Nat.{ℕ, _+_}
-use mathlib.Core.Bool.{cond}
-use mathlib.Core.List.{List, [], _∷_}
-use lib.Dec.{eqb, ltb}
-use lib.ListN.{length, getD, drop}
+use Rattle.laws.specs.Usual.{cond, List, [], _∷_, ℕ, _+_, length, getD, drop, eqb, ltb}
 
 -- an octet in front of the first of some parts
 abbrev pub inFront : ℕ → List (List ℕ) → List (List ℕ)

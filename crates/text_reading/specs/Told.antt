@@ -1,14 +1,12 @@
 -- The numbers that are read are those that `text` writes, and no others. Assumes nothing.
-use mathlib.Core.Path.{_≡_, refl, ap, ap₂, sym, _∙_}
-use mathlib.Core.Bool.{Bool, true, false, cond, _&&_, true≢false}
-use mathlib.Core.List.{List, [], _∷_, _++_, append-assoc, append-nil}
-use Prim.Native.Nat.{ℕ, zero, suc, _+_, _-_, _*_, _/_, _%_, _^_, _≤_, _<_}
+use Rattle.laws.specs.Usual.{_≡_, refl, sym, ap, ap₂, _∙_, Bool, true, false, cond, _&&_, List, [], _∷_, _++_, ℕ, suc, _+_, _-_, _*_, _/_, _%_, _<_, _≤_, arith, length, eqb, leb, ltb}
+use mathlib.Core.Bool.{true≢false}
+use mathlib.Core.List.{append-assoc, append-nil}
+use Prim.Native.Nat.{zero, _^_}
 use native.Mathlib.Decide.{decLt, ℕ-discrete}
 use native.Mathlib.Nat.{pow-suc}
-use native.Mathlib.Omega.{arith}
 use borrow.Author.Tests.{le-leb, leb-true, lt-ltb, ltb-false, eqb-true, eqb-false, ne-eqb}
-use lib.Dec.{eqb, leb, ltb}
-use lib.ListN.{length, length-append}
+use lib.ListN.{length-append}
 use Rattle.laws.specs.Tests.{both}
 use Rattle.text.specs.Decimal.{behind, decimalAt, decimalOf}
 use Rattle.text.specs.Digits.{one-digit, last-digit}

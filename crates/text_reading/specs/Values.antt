@@ -1,9 +1,5 @@
 -- Decimal numbers as they are read: without leading zeros, and at most a limit.
-use Prim.Native.Nat.{ℕ, _+_, _-_, _*_}
-use mathlib.Core.Bool.{Bool, cond, _&&_}
-use mathlib.Core.List.{List, [], _∷_}
-use lib.Dec.{eqb, leb, ltb}
-use lib.ListN.{length}
+use Rattle.laws.specs.Usual.{Bool, cond, _&&_, List, [], _∷_, ℕ, _+_, _-_, _*_, length, eqb, leb, ltb}
 use Rattle.text_reading.specs.declared.Value.{Value}
 use Rattle.text_reading.specs.declared.Value.the-variants.{Number, Nothing}
 

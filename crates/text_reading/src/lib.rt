@@ -1,7 +1,5 @@
 // Reading text: a decimal number of at most a limit, and the place where a part of a line ends.
-ghost use mathlib.Core.Path.{_≡_};
-ghost use Prim.Native.Nat.{_+_};
-ghost use lib.ListN.{drop};
+ghost use Rattle.laws.specs.Usual.{_≡_, _+_, drop};
 ghost use Rattle.text_reading.specs.Values.{isDigit, valueOn, decimalIn};
 ghost use Rattle.text_reading.specs.Marks.{before};
 

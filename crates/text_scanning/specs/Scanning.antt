@@ -1,9 +1,5 @@
 -- A text that is taken octet by octet, up to its next line feed. What has come so far is a state, and what is stored of it a buffer.
-use mathlib.Core.Path.{_≡_}
-use mathlib.Core.Bool.{Bool, true, false, cond}
-use mathlib.Core.List.{List, [], _∷_}
-use Prim.Native.Nat.{ℕ, _+_}
-use lib.Dec.{eqb}
+use Rattle.laws.specs.Usual.{_≡_, Bool, true, false, cond, List, [], _∷_, ℕ, _+_, eqb}
 use Rattle.text.specs.Lines.{lineFeed}
 
 -- the octets have no line feed among them

@@ -2,9 +2,7 @@
 use units::Milliseconds;
 use units::Ticks;
 use units::Wait;
-ghost use mathlib.Core.Path.{_≡_};
-ghost use Prim.Native.Nat.{_+_};
-ghost use lib.Dec.{leb};
+ghost use Rattle.laws.specs.Usual.{_≡_, _+_, leb};
 ghost use Rattle.station.specs.Rules.Ticking.{later as laterOf, waitEnds, waitedThen};
 ghost use Rattle.station.specs.Rules.Waits.{detectionWait, acceptanceTime, numberWait, triggerWait, listeningTime, watchTicks, longestWatch};
 

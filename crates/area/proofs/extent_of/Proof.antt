@@ -1,6 +1,5 @@
 -- `area::extent_of` meets its contract.
-use native.Mathlib.Omega.{arith}
-use borrow.Author.Needs.{needs}
+use Rattle.laws.specs.Usual.{arith, needs}
 use Rattle.area.proofs.Table.{place-below}
 use Rattle.area.proofs.extent_of.Statement.{statement}
 use Rattle.area.proofs.extent_of.Tie as tie

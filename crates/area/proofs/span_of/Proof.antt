@@ -1,7 +1,5 @@
 -- `area::span_of` meets its contract.
-use mathlib.Core.Path.{ap}
-use native.Mathlib.Omega.{arith}
-use borrow.Author.Needs.{needs}
+use Rattle.laws.specs.Usual.{ap, arith, needs}
 use Rattle.area.specs.declared.Extent.{Extent}
 use Rattle.area.proofs.Table.{start-within}
 use Rattle.area.proofs.span_of.Statement.{statement}

@@ -1,7 +1,6 @@
 -- `asking::ask` meets its contract.
-use mathlib.Core.Path.{refl, sym, _∙_}
+use Rattle.laws.specs.Usual.{refl, sym, _∙_, needs}
 use borrow.Author.Tests.{not-true, not-false}
-use borrow.Author.Needs.{needs}
 use Rattle.asking.proofs.ask.Statement.{statement}
 use Rattle.asking.proofs.ask.Tie as tie
 

@@ -1,10 +1,5 @@
 -- `asking::send` meets its contract.
-use mathlib.Core.Path.{_≡_, refl, ap, sym, _∙_, subst}
-use mathlib.Core.Bool.{false≢true}
-use mathlib.Core.List.{List, []}
-use Prim.Native.Nat.{ℕ}
-use native.Mathlib.Omega.{arith}
-use lib.ListN.{length, drop}
+use Rattle.laws.specs.Usual.{_≡_, refl, sym, ap, subst, _∙_, false≢true, List, [], ℕ, arith, length, drop, needs}
 use borrow.Author.Tests.{le-leb}
 use Rattle.block.specs.Blocks.{startOf}
 use Rattle.laws.specs.Tests.{second}
@@ -14,7 +9,6 @@ use Rattle.station.specs.Rules.Asking.{nextBlock, dueFields, turnAfter, sentIn}
 use Rattle.station.specs.Rules.State.{holds}
 use Rattle.station.specs.Types.{Fields, Phase, Station, Asked}
 use Rattle.frame_writing.specs.Writing.{wholeLength, outputOf}
-use borrow.Author.Needs.{needs}
 use Rattle.asking.proofs.send.Statement.{statement}
 use Rattle.asking.proofs.send.Tie as tie
 use Rattle.asking.proofs.Lent.{lent}

@@ -1,6 +1,5 @@
 -- `asking::send_block` meets its contract.
-use mathlib.Core.Path.{ap}
-use borrow.Author.Needs.{needs}
+use Rattle.laws.specs.Usual.{ap, needs}
 use Rattle.station.specs.declared.Asked.{Asked}
 use Rattle.asking.proofs.send_block.Statement.{statement}
 use Rattle.asking.proofs.send_block.Tie as tie

@@ -1,10 +1,5 @@
 -- `asking::write` meets its contract.
-use mathlib.Core.Path.{_≡_, sym, _∙_}
-use mathlib.Core.List.{List}
-use Prim.Native.Nat.{ℕ, _≤_}
-use native.Mathlib.Omega.{arith}
-use lib.ListN.{length}
-use borrow.Author.Needs.{needs}
+use Rattle.laws.specs.Usual.{_≡_, sym, _∙_, List, ℕ, _≤_, arith, length, needs}
 use borrow.Author.Tests.{le-leb}
 use Rattle.station.specs.Types.{Fields, Refusal}
 use Rattle.frame_reading.specs.Reading.{dataSize}

@@ -1,7 +1,5 @@
 -- `asking_placing::after_block` meets its contract.
-use mathlib.Core.Path.{refl}
-use native.Mathlib.Omega.{arith}
-use borrow.Author.Needs.{needs}
+use Rattle.laws.specs.Usual.{refl, arith, needs}
 use Rattle.asking_placing.specs.Placed.{placed}
 use Rattle.asking_placing.proofs.after_block.Statement.{statement}
 use Rattle.asking_placing.proofs.after_block.Tie as tie

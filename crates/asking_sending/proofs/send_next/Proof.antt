@@ -1,10 +1,6 @@
 -- `asking_sending::send_next` meets its contract.
-use mathlib.Core.Path.{_≡_, ap, ap₂, sym, _∙_}
-use mathlib.Core.List.{List}
-use Prim.Native.Nat.{ℕ, _+_, _*_}
-use native.Mathlib.Omega.{arith}
-use lib.ListN.{drop, length-drop}
-use borrow.Author.Needs.{needs}
+use Rattle.laws.specs.Usual.{_≡_, sym, ap, ap₂, _∙_, List, ℕ, _+_, _*_, arith, drop, needs}
+use lib.ListN.{length-drop}
 use Rattle.asking_placing.specs.Placed.{placed}
 use Rattle.block.specs.Blocks.{startOf}
 use Rattle.block.specs.Cut.{at-most}

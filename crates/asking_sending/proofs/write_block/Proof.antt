@@ -1,10 +1,6 @@
 -- `asking_sending::write_block` meets its contract.
-use mathlib.Core.Path.{_≡_, ap, ap₂, sym, _∙_}
-use mathlib.Core.List.{List}
-use Prim.Native.Nat.{ℕ, _+_, _-_}
+use Rattle.laws.specs.Usual.{_≡_, sym, ap, ap₂, _∙_, List, ℕ, _+_, _-_, take, needs}
 use native.Mathlib.Nat.{sub-zero}
-use lib.ListN.{take}
-use borrow.Author.Needs.{needs}
 use Rattle.copying.specs.Pasted.{pasted}
 use Rattle.frame.specs.declared.Fields.{Fields}
 use Rattle.frame_reading.specs.Reading.{dataSize}

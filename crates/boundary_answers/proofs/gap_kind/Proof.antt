@@ -1,6 +1,5 @@
 -- `boundary_answers::gap_kind` meets its contract.
-use mathlib.Core.Path.{sym, _∙_}
-use borrow.Author.Needs.{needs}
+use Rattle.laws.specs.Usual.{sym, _∙_, needs}
 use Rattle.boundary_answers.proofs.gap_kind.Statement.{statement}
 use Rattle.boundary_answers.proofs.gap_kind.Tie as tie
 

@@ -1,8 +1,6 @@
 -- `boundary_answers::gap_ticks` meets its contract.
-use mathlib.Core.Path.{sym, _∙_}
-use native.Mathlib.Omega.{arith}
+use Rattle.laws.specs.Usual.{sym, _∙_, arith, needs}
 use borrow.Author.Tests.{ltb-false}
-use borrow.Author.Needs.{needs}
 use Rattle.boundary_answers.proofs.gap_ticks.Statement.{statement}
 use Rattle.boundary_answers.proofs.gap_ticks.Tie as tie
 

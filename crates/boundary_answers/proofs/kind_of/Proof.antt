@@ -1,6 +1,5 @@
 -- `boundary_answers::kind_of` meets its contract.
-use mathlib.Core.Path.{ap, sym, _∙_}
-use borrow.Author.Needs.{needs}
+use Rattle.laws.specs.Usual.{sym, ap, _∙_, needs}
 use Rattle.boundary_answers.specs.Numbers.{kindOf}
 use Rattle.boundary_answers.proofs.kind_of.Statement.{statement}
 use Rattle.boundary_answers.proofs.kind_of.Tie as tie

@@ -1,6 +1,5 @@
 -- `boundary_answers::ticks_of` meets its contract.
-use mathlib.Core.Path.{ap, sym, _∙_}
-use borrow.Author.Needs.{needs}
+use Rattle.laws.specs.Usual.{sym, ap, _∙_, needs}
 use Rattle.boundary_answers.specs.Numbers.{ticksOf}
 use Rattle.boundary_answers.proofs.ticks_of.Statement.{statement}
 use Rattle.boundary_answers.proofs.ticks_of.Tie as tie

@@ -1,11 +1,9 @@
 -- `boundary_calls::ask` meets its contract.
-use mathlib.Core.Path.{ap}
+use Rattle.laws.specs.Usual.{sym, ap, _∙_, needs}
 use Rattle.station.specs.Rules.Asking.{Asking}
-use mathlib.Core.Path.{sym, _∙_}
 use Rattle.laws.specs.Tests.{first, second}
 use Rattle.boundary_lists.specs.Lists.{membersIn}
 use Rattle.boundary_participant.specs.Quick.{held-asked}
-use borrow.Author.Needs.{needs}
 use Rattle.boundary_calls.proofs.ask.Statement.{statement}
 use Rattle.boundary_calls.proofs.ask.Tie as tie
 

@@ -1,6 +1,5 @@
 -- `boundary_calls::hear` meets its contract.
-use mathlib.Core.Path.{sym, _∙_}
-use borrow.Author.Needs.{needs}
+use Rattle.laws.specs.Usual.{sym, _∙_, needs}
 use Rattle.boundary_calls.proofs.hear.Statement.{statement}
 use Rattle.boundary_calls.proofs.hear.Tie as tie
 

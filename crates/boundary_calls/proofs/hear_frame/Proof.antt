@@ -1,9 +1,7 @@
 -- `boundary_calls::hear_frame` meets its contract.
-use mathlib.Core.Path.{refl}
-use mathlib.Core.Path.{sym, _∙_}
+use Rattle.laws.specs.Usual.{refl, sym, _∙_, needs}
 use Rattle.laws.specs.Tests.{first, second}
 use Rattle.station.specs.Rules.Hearing.{lentRight}
-use borrow.Author.Needs.{needs}
 use Rattle.boundary_calls.proofs.hear_frame.Statement.{statement}
 use Rattle.boundary_calls.proofs.hear_frame.Tie as tie
 

@@ -1,11 +1,10 @@
 -- `boundary_counting::tick` meets its contract.
 use Rattle.boundary_answers.specs.Numbers.{tickedAnswer}
 use Rattle.station.specs.Rules.Ticking.{Ticking}
-use mathlib.Core.Path.{ap, sym, _∙_}
+use Rattle.laws.specs.Usual.{sym, ap, _∙_, needs}
 use Rattle.boundary_lists.specs.Lists.{membersIn}
 use Rattle.boundary_participant.specs.Quick.{quiet-tick, quiet-core}
 use Rattle.boundary_waiting.specs.Ticks.{counts, stays-off}
-use borrow.Author.Needs.{needs}
 use Rattle.boundary_counting.proofs.tick.Statement.{statement}
 use Rattle.boundary_counting.proofs.tick.Tie as tie
 

@@ -1,6 +1,5 @@
 -- `boundary_crossing::keep` meets its contract.
-use mathlib.Core.Path.{refl}
-use borrow.Author.Needs.{needs}
+use Rattle.laws.specs.Usual.{refl, needs}
 use Rattle.boundary_crossing.proofs.keep.Statement.{statement}
 use Rattle.boundary_crossing.proofs.keep.Tie as tie
 

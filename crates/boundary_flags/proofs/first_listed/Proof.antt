@@ -1,8 +1,5 @@
 -- `boundary_flags::first_listed` meets its contract.
-use borrow.Author.Needs.{needs}
-use mathlib.Core.Path.{_≡_, ap, _∙_, sym}
-use Prim.Native.Nat.{_-_, min}
-use native.Mathlib.Omega.{arith}
+use Rattle.laws.specs.Usual.{_≡_, sym, ap, _∙_, _-_, min, arith, needs}
 use Rattle.members_searching.specs.Search.{firstFrom, numberOr}
 use Rattle.boundary_lists.specs.Lists.{flagged}
 use Rattle.boundary_flags.specs.Search.{first-skip, first-here, first-past}

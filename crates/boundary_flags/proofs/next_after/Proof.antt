@@ -1,12 +1,10 @@
 -- `boundary_flags::next_after` meets its contract.
-use mathlib.Core.Path.{_∙_, sym}
-use Prim.Native.Nat.{_+_}
+use Rattle.laws.specs.Usual.{sym, _∙_, _+_, needs}
 use borrow.Author.Tests.{lt-ltb, le-ltb}
 use Rattle.members.specs.Members.{smallest}
 use Rattle.members_searching.specs.Found.{next-found, smallest-found}
 use Rattle.boundary_lists.specs.Lists.{flagged}
 use Rattle.boundary_flags.specs.Search.{found-one, found-none}
-use borrow.Author.Needs.{needs}
 use Rattle.boundary_flags.proofs.next_after.Statement.{statement}
 use Rattle.boundary_flags.proofs.next_after.Tie as tie
 

@@ -1,7 +1,5 @@
 -- `boundary_flags::skip` meets its contract.
-use mathlib.Core.Path.{_≡_, refl, _∙_, sym}
-use Prim.Native.Nat.{_-_, _≤_}
-use native.Mathlib.Omega.{arith}
+use Rattle.laws.specs.Usual.{_≡_, refl, sym, _∙_, _-_, _≤_, arith}
 use Rattle.members_searching.specs.Search.{firstFrom}
 use Rattle.boundary_lists.specs.Lists.{flagged}
 use Rattle.boundary_flags.specs.Search.{sixteen-skip}

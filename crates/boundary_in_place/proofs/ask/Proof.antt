@@ -5,19 +5,12 @@ use Rattle.boundary_core.specs.Crossing.{coreOf}
 use Rattle.frame_writing.specs.Writing.{wholeLength, outputOf}
 use Rattle.station.specs.Rules.Asking.{nextFields, turnFor, Asking}
 use Rattle.block.specs.Blocks.{startOf}
-use Prim.Native.Nat.{ℕ, _+_}
-use lib.ListN.{drop}
-use mathlib.Core.Path.{ap, sym}
-use mathlib.Core.Path.{_∙_}
-use mathlib.Core.Bool.{_&&_}
-use lib.Dec.{eqb, leb}
-use lib.ListN.{length}
+use Rattle.laws.specs.Usual.{sym, ap, _∙_, _&&_, ℕ, _+_, length, drop, eqb, leb, needs}
 use borrow.Author.Tests.{eqb-true, leb-true}
 use Rattle.laws.specs.Tests.{first, second}
 use Rattle.boundary_lists.specs.Laws.{next-in}
 use Rattle.boundary_lists.specs.Lists.{membersIn}
 use Rattle.boundary_participant.specs.Quick.{held-placed, held-asked}
-use borrow.Author.Needs.{needs}
 use Rattle.boundary_in_place.proofs.ask.Statement.{statement}
 use Rattle.boundary_in_place.proofs.ask.Tie as tie
 

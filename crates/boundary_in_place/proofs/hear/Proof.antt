@@ -1,11 +1,5 @@
 -- `boundary_in_place::hear` meets its contract.
-use mathlib.Core.Bool.{Bool, true, false, not, _||_}
-use mathlib.Core.Path.{_≡_, ap, sym, _∙_}
-use Prim.Native.Nat.{ℕ, _<_}
-use native.Mathlib.Omega.{arith}
-use lib.Dec.{eqb}
-use lib.ListN.{getD}
-use borrow.Author.Needs.{needs}
+use Rattle.laws.specs.Usual.{_≡_, sym, ap, _∙_, Bool, true, false, not, _||_, ℕ, _<_, arith, getD, eqb, needs}
 use Rattle.frame.specs.Codes.{isToken}
 use Rattle.hearing_token.specs.Parts.{outcomeBy}
 use Rattle.boundary_lists.specs.Laws.{listed-in, cleared-in}

@@ -1,7 +1,6 @@
 -- `boundary_lists::entry_at` meets its contract.
-use mathlib.Core.Path.{sym}
+use Rattle.laws.specs.Usual.{sym, needs}
 use Rattle.boundary_lists.specs.Laws.{entry-in}
-use borrow.Author.Needs.{needs}
 use Rattle.boundary_lists.proofs.entry_at.Statement.{statement}
 use Rattle.boundary_lists.proofs.entry_at.Tie as tie
 

@@ -1,9 +1,6 @@
 -- `boundary_lists::members_of` meets its contract.
-use borrow.Author.Needs.{needs}
-use mathlib.Core.Path.{_≡_, refl, ap}
-use Prim.Native.Nat.{_-_}
-use native.Mathlib.Omega.{arith}
-use lib.ListN.{length, take, length-set}
+use Rattle.laws.specs.Usual.{_≡_, refl, ap, _-_, arith, length, take, needs}
+use lib.ListN.{length-set}
 use Rattle.members.specs.declared.Members.{Members}
 use Rattle.boundary_lists.specs.Lists.{membersIn}
 use Rattle.boundary_lists.specs.Laws.{length-in, one-more, all-copied}

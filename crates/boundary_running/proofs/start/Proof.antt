@@ -3,8 +3,7 @@ use Rattle.boundary_answers.specs.Numbers.{switchedAnswer}
 use Rattle.boundary_core.specs.Crossing.{coreOf}
 use Rattle.station.specs.declared.Station.{Station}
 use Rattle.station.specs.Rules.Starting.{startOf}
-use mathlib.Core.Path.{ap, _∙_}
-use borrow.Author.Needs.{needs}
+use Rattle.laws.specs.Usual.{ap, _∙_, needs}
 use Rattle.boundary_running.proofs.start.Statement.{statement}
 use Rattle.boundary_running.proofs.start.Tie as tie
 

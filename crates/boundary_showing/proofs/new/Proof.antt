@@ -1,6 +1,5 @@
 -- `boundary_showing::new` meets its contract.
-use mathlib.Core.Path.{_∙_}
-use borrow.Author.Needs.{needs}
+use Rattle.laws.specs.Usual.{_∙_, needs}
 use Rattle.boundary_showing.proofs.new.Statement.{statement}
 use Rattle.boundary_showing.proofs.new.Tie as tie
 

@@ -1,8 +1,7 @@
 -- `boundary_storing::store` meets its contract.
-use native.Mathlib.Omega.{arith}
+use Rattle.laws.specs.Usual.{arith, needs}
 use lib.ListN.{length-set}
 use Rattle.boundary_storing.specs.Storing.{put-in}
-use borrow.Author.Needs.{needs}
 use Rattle.boundary_storing.proofs.store.Statement.{statement}
 use Rattle.boundary_storing.proofs.store.Tie as tie
 

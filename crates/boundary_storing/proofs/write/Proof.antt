@@ -1,9 +1,5 @@
 -- `boundary_storing::write` meets its contract.
-use borrow.Author.Needs.{needs}
-use mathlib.Core.Path.{_≡_, refl}
-use Prim.Native.Nat.{_-_}
-use native.Mathlib.Omega.{arith}
-use lib.ListN.{length, getD, take}
+use Rattle.laws.specs.Usual.{_≡_, refl, _-_, arith, length, getD, take, needs}
 use Rattle.laws.specs.Lists.{unmapped}
 use Rattle.members.specs.Members.{nobody}
 use Rattle.boundary_lists.specs.Lists.{membersIn}

@@ -1,7 +1,6 @@
 -- `boundary_waiting::waited_by` meets its contract.
-use mathlib.Core.Path.{_∙_}
+use Rattle.laws.specs.Usual.{_∙_, needs}
 use borrow.Author.Tests.{eq-eqb, ne-eqb}
-use borrow.Author.Needs.{needs}
 use Rattle.boundary_waiting.proofs.waited_by.Statement.{statement}
 use Rattle.boundary_waiting.proofs.waited_by.Tie as tie
 

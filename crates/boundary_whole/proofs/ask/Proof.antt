@@ -3,9 +3,7 @@ use Rattle.boundary_answers.specs.Numbers.{askedAnswer}
 use Rattle.boundary_core.specs.Crossing.{coreOf}
 use Rattle.station.specs.declared.Station.{Station}
 use Rattle.station.specs.Rules.Asking.{askOf}
-use mathlib.Core.Path.{ap}
-use mathlib.Core.Path.{_∙_}
-use borrow.Author.Needs.{needs}
+use Rattle.laws.specs.Usual.{ap, _∙_, needs}
 use Rattle.boundary_whole.proofs.ask.Statement.{statement}
 use Rattle.boundary_whole.proofs.ask.Tie as tie
 

@@ -3,8 +3,7 @@ use Rattle.boundary_answers.specs.Numbers.{heardAnswer}
 use Rattle.boundary_core.specs.Crossing.{coreOf}
 use Rattle.station.specs.declared.Station.{Station}
 use Rattle.station.specs.Rules.Hearing.{hearOf}
-use mathlib.Core.Path.{ap, _∙_}
-use borrow.Author.Needs.{needs}
+use Rattle.laws.specs.Usual.{ap, _∙_, needs}
 use Rattle.boundary_whole.proofs.hear.Statement.{statement}
 use Rattle.boundary_whole.proofs.hear.Tie as tie
 

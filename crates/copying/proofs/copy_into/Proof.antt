@@ -1,9 +1,6 @@
 -- `copying::copy_into` meets its contract.
-use mathlib.Core.Path.{_≡_, refl, _∙_, ap, sym}
-use mathlib.Core.List.{List}
-use Prim.Native.Nat.{ℕ, _+_, _-_, _≤_}
-use native.Mathlib.Omega.{arith}
-use lib.ListN.{length, take, drop, length-take, length-drop}
+use Rattle.laws.specs.Usual.{_≡_, refl, sym, ap, _∙_, List, ℕ, _+_, _-_, _≤_, arith, length, take, drop}
+use lib.ListN.{length-take, length-drop}
 use lib.Seq.{take-all}
 use Rattle.copying.specs.Pasted.{pasted}
 use Rattle.copying.specs.Laws.{paste-nothing, paste-piece}

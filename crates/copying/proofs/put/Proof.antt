@@ -1,11 +1,7 @@
 -- `copying::put` meets its contract.
-use mathlib.Core.Path.{_≡_, _∙_, ap}
-use mathlib.Core.List.{List, _++_}
-use Prim.Native.Nat.{ℕ, _-_}
-use lib.ListN.{length, take, drop}
+use Rattle.laws.specs.Usual.{_≡_, ap, _∙_, List, _++_, ℕ, _-_, length, take, drop, needs}
 use lib.Seq.{take-length}
 use borrow.Rule.Slice.PartMut.{putMid, midOf}
-use borrow.Author.Needs.{needs}
 use Rattle.copying.specs.Laws.{paste-front, paste-part}
 use Rattle.copying.specs.Pasted.{pasted}
 use Rattle.copying.proofs.put.Statement.{statement}

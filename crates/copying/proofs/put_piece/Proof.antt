@@ -1,11 +1,7 @@
 -- `copying::put_piece` meets its contract.
-use mathlib.Core.Path.{_≡_, _∙_, ap}
-use mathlib.Core.List.{List, _++_}
-use Prim.Native.Nat.{ℕ, _-_}
+use Rattle.laws.specs.Usual.{_≡_, ap, _∙_, List, _++_, ℕ, _-_, length, take, drop, needs}
 use native.Mathlib.Nat.{sub-zero}
-use lib.ListN.{length, take, drop}
 use lib.Seq.{take-append-seam, take-length}
-use borrow.Author.Needs.{needs}
 use borrow.Rule.Slice.PartMut.{midOf}
 use Rattle.copying.specs.Pasted.{pasted}
 use Rattle.copying.proofs.put_piece.Statement.{statement}

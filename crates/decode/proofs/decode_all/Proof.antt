@@ -1,9 +1,5 @@
 -- `decode::decode_all` meets its contract.
-use mathlib.Core.Path.{_≡_, refl, ap, sym, _∙_}
-use mathlib.Core.List.{List, [], _++_}
-use Prim.Native.Nat.{ℕ}
-use native.Mathlib.Omega.{arith}
-use lib.ListN.{length, take}
+use Rattle.laws.specs.Usual.{_≡_, refl, sym, ap, _∙_, List, [], _++_, ℕ, arith, length, take}
 use borrow.Author.Tests.{ltb-true}
 use Rattle.decode_line.specs.Gathering.{fresh}
 use Rattle.decode_line.specs.declared.Gathered.{Gathered}

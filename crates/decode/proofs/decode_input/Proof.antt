@@ -1,7 +1,6 @@
 -- `decode::decode_input` meets its contract.
-use mathlib.Core.Path.{ap}
+use Rattle.laws.specs.Usual.{ap, needs}
 use Rattle.decode.specs.Capture.{Carried}
-use borrow.Author.Needs.{needs}
 use Rattle.decode.proofs.decode_input.Statement.{statement}
 use Rattle.decode.proofs.decode_input.Tie as tie
 

@@ -1,9 +1,6 @@
 -- `decode::decode_part` meets its contract.
-use mathlib.Core.Path.{_≡_, refl, ap, sym, _∙_}
-use mathlib.Core.Bool.{false, true≢false}
-use Prim.Native.Nat.{ℕ, _-_, _≤_}
-use native.Mathlib.Omega.{arith}
-use lib.ListN.{length, take, drop}
+use Rattle.laws.specs.Usual.{_≡_, refl, sym, ap, _∙_, false, ℕ, _-_, _≤_, arith, length, take, drop}
+use mathlib.Core.Bool.{true≢false}
 use borrow.Author.Tests.{ltb-true, ltb-false}
 use Rattle.text_feeding.specs.Feeding.{fedAll, Onward}
 use Rattle.text_feeding.specs.Scan.{taken-on, onward-all}

@@ -1,10 +1,8 @@
 -- `decode::decode_some` meets its contract.
-use mathlib.Core.Path.{ap, _∙_}
-use lib.ListN.{length}
+use Rattle.laws.specs.Usual.{ap, _∙_, length, needs}
 use Rattle.text_feeding.specs.Feeding.{fedAll}
 use Rattle.text_feeding.specs.Scan.{read-arrived, read-taken}
 use Rattle.decode.specs.Capture.{carried, decode}
-use borrow.Author.Needs.{needs}
 use Rattle.decode.proofs.decode_some.Statement.{statement}
 use Rattle.decode.proofs.decode_some.Tie as tie
 

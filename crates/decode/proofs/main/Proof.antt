@@ -1,8 +1,7 @@
 -- `decode::main` meets its contract.
-use lib.ListN.{replicate}
+use Rattle.laws.specs.Usual.{replicate, needs}
 use Rattle.text_feeding.specs.Front.{front-within, front-read}
 use Rattle.decode.specs.Capture.{answerToRest}
-use borrow.Author.Needs.{needs}
 use Rattle.decode.proofs.main.Statement.{statement}
 use Rattle.decode.proofs.main.Tie as tie
 

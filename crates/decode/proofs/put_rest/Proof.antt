@@ -1,9 +1,7 @@
 -- `decode::put_rest` meets its contract.
-use mathlib.Core.Path.{_≡_, refl, sym, _∙_}
-use mathlib.Core.Bool.{true, false}
+use Rattle.laws.specs.Usual.{_≡_, refl, sym, _∙_, true, false, needs}
 use Rattle.copying.specs.Laws.{paste-nothing}
 use Rattle.decode_line.specs.Gathering.{begun}
-use borrow.Author.Needs.{needs}
 use Rattle.decode.proofs.put_rest.Statement.{statement}
 use Rattle.decode.proofs.put_rest.Tie as tie
 

@@ -1,8 +1,5 @@
 -- `decode::take_next` meets its contract.
-use mathlib.Core.Path.{_≡_, ap, sym, _∙_}
-use mathlib.Core.List.{List}
-use Prim.Native.Nat.{ℕ}
-use lib.ListN.{length, drop}
+use Rattle.laws.specs.Usual.{_≡_, sym, ap, _∙_, List, ℕ, length, drop, needs}
 use Rattle.decode_answers.specs.Answers.{textOf}
 use Rattle.copying.specs.Laws.{paste-nothing}
 use Rattle.copying.specs.Pasted.{pasted}
@@ -12,7 +9,6 @@ use Rattle.decode_line.specs.declared.Scanned.{Scanned}
 use Rattle.text_feeding.specs.Scan.{Scan, ended-taken, ended-said, open-taken, open-said}
 use Rattle.decode.specs.Capture.{carried, decode}
 use Rattle.decode.specs.Scanned.{scan-taken}
-use borrow.Author.Needs.{needs}
 use Rattle.decode.proofs.take_next.Statement.{statement}
 use Rattle.decode.proofs.take_next.Tie as tie
 

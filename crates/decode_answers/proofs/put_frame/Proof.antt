@@ -1,12 +1,8 @@
 -- `decode_answers::put_frame` meets its contract.
-use mathlib.Core.Path.{ap, _∙_}
-use mathlib.Core.List.{List}
-use Prim.Native.Nat.{ℕ}
-use lib.ListN.{length}
+use Rattle.laws.specs.Usual.{ap, _∙_, List, ℕ, length, needs}
 use Rattle.copying.specs.Pasted.{pasted}
 use Rattle.text.specs.Lines.{lineOf}
 use Rattle.decode_answers.specs.Answers.{frameWord}
-use borrow.Author.Needs.{needs}
 use Rattle.decode_answers.proofs.put_frame.Statement.{statement}
 use Rattle.decode_answers.proofs.put_frame.Tie as tie
 

@@ -1,11 +1,8 @@
 -- `decode_line::hear` meets its contract.
-use mathlib.Core.Path.{ap, sym, _∙_}
-use Prim.Native.Nat.{ℕ}
+use Rattle.laws.specs.Usual.{sym, ap, _∙_, ℕ, take, needs}
 use native.Mathlib.Nat.{sub-zero}
-use lib.ListN.{take}
 use lib.Seq.{take-all}
 use Rattle.frame_reading.specs.Reading.{readOf}
-use borrow.Author.Needs.{needs}
 use Rattle.decode_line.proofs.hear.Statement.{statement}
 use Rattle.decode_line.proofs.hear.Tie as tie
 

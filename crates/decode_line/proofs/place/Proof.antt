@@ -1,6 +1,5 @@
 -- `decode_line::place` meets its contract.
-use mathlib.Core.Path.{_∙_}
-use borrow.Author.Needs.{needs}
+use Rattle.laws.specs.Usual.{_∙_, needs}
 use Rattle.decode_line.proofs.place.Statement.{statement}
 use Rattle.decode_line.proofs.place.Tie as tie
 

@@ -1,6 +1,5 @@
 -- `decode_line::push` meets its contract.
-use mathlib.Core.Path.{_∙_, sym}
-use borrow.Author.Needs.{needs}
+use Rattle.laws.specs.Usual.{sym, _∙_, needs}
 use Rattle.decode_line.proofs.push.Statement.{statement}
 use Rattle.decode_line.proofs.push.Tie as tie
 

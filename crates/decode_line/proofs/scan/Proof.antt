@@ -1,9 +1,6 @@
 -- `decode_line::scan` meets its contract.
-use mathlib.Core.Path.{_≡_, refl, ap, ap₂, sym, _∙_}
-use mathlib.Core.List.{List, []}
-use Prim.Native.Nat.{ℕ, _+_, _-_}
-use native.Mathlib.Omega.{arith}
-use lib.ListN.{length, drop, getD, drop-of-length-le}
+use Rattle.laws.specs.Usual.{_≡_, refl, sym, ap, ap₂, _∙_, List, [], ℕ, _+_, _-_, arith, length, getD, drop}
+use lib.ListN.{drop-of-length-le}
 use Rattle.text_scanning.specs.Scans.{scan-on, scan-ended, buffer-on, buffer-ended}
 use Rattle.decode_line.specs.Gathering.{pushed, bufferAfter, made, scanned, bufferScanned}
 use Rattle.decode_line.specs.declared.Gathered.{Gathered}

@@ -1,8 +1,7 @@
 -- `decode_line::store` meets its contract.
-use mathlib.Core.Path.{refl, sym}
+use Rattle.laws.specs.Usual.{refl, sym, needs}
 use lib.Seq.{set-out}
 use borrow.Author.Tests.{lt-ltb, le-ltb}
-use borrow.Author.Needs.{needs}
 use Rattle.decode_line.proofs.store.Statement.{statement}
 use Rattle.decode_line.proofs.store.Tie as tie
 

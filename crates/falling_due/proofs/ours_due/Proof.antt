@@ -1,6 +1,5 @@
 -- `falling_due::ours_due` meets its contract.
-use mathlib.Core.Path.{_∙_}
-use borrow.Author.Needs.{needs}
+use Rattle.laws.specs.Usual.{_∙_, needs}
 use Rattle.falling_due.proofs.ours_due.Statement.{statement}
 use Rattle.falling_due.proofs.ours_due.Tie as tie
 

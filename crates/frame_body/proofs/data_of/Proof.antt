@@ -1,10 +1,9 @@
 -- `frame_body::data_of` meets its contract.
-use Prim.Native.Nat.{_-_}
-use lib.ListN.{length, drop, length-drop}
+use Rattle.laws.specs.Usual.{_-_, length, drop, needs}
+use lib.ListN.{length-drop}
 use Rattle.frame_reading.specs.Reading.{dataSize}
 use native.Mathlib.Nat.{le-refl}
 use lib.Seq.{take-all}
-use borrow.Author.Needs.{needs}
 use Rattle.frame_body.proofs.data_of.Statement.{statement}
 use Rattle.frame_body.proofs.data_of.Tie as tie
 

@@ -1,7 +1,6 @@
 -- `frame_body::read_body` meets its contract.
-use mathlib.Core.Path.{_∙_, sym}
+use Rattle.laws.specs.Usual.{sym, _∙_, needs}
 use borrow.Author.Tests.{not-true, not-false}
-use borrow.Author.Needs.{needs}
 use Rattle.frame_body.proofs.read_body.Statement.{statement}
 use Rattle.frame_body.proofs.read_body.Tie as tie
 

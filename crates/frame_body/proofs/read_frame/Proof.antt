@@ -1,7 +1,6 @@
 -- `frame_body::read_frame` meets its contract.
 use Rattle.frame_reading.specs.Reading.{readOf}
-use mathlib.Core.Path.{_∙_, sym}
-use borrow.Author.Needs.{needs}
+use Rattle.laws.specs.Usual.{sym, _∙_, needs}
 use Rattle.frame_body.proofs.read_frame.Statement.{statement}
 use Rattle.frame_body.proofs.read_frame.Tie as tie
 

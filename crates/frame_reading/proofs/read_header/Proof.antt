@@ -1,9 +1,5 @@
 -- `frame_reading::read_header` meets its contract.
-use mathlib.Core.Path.{_≡_, _∙_, ap, sym}
-use mathlib.Core.Bool.{true}
-use mathlib.Core.List.{List}
-use Prim.Native.Nat.{ℕ, _≤_}
-use lib.ListN.{length}
+use Rattle.laws.specs.Usual.{_≡_, sym, ap, _∙_, true, List, ℕ, _≤_, length, needs}
 use borrow.Author.Tests.{not-true, not-false, lt-leb, le-leb, ne-eqb, eq-eqb}
 use Rattle.frame.specs.Codes.{codeOf}
 use Rattle.frame.specs.Octets.{longAt}
@@ -11,7 +7,6 @@ use Rattle.frame.specs.Positions.{TFL}
 use Rattle.frame.specs.declared.Refusal.the-variants.{Code, Address}
 use Rattle.frame_reading.specs.Reading.{need, marked, coded, codeIn, fieldsOf, addressed, readHeaderOf}
 use Rattle.frame_reading.specs.declared.Read.the-variants.{Frame}
-use borrow.Author.Needs.{needs}
 use Rattle.frame_reading.proofs.read_header.Statement.{statement}
 use Rattle.frame_reading.proofs.read_header.Tie as tie
 

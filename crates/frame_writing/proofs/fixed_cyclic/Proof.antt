@@ -1,8 +1,7 @@
 -- `frame_writing::fixed_cyclic` meets its contract.
-use native.Mathlib.Omega.{arith}
+use Rattle.laws.specs.Usual.{arith, needs}
 use Rattle.frame_writing.proofs.Sizes.{data-within}
 use Rattle.frame_writing.specs.Writing.{fixedFor}
-use borrow.Author.Needs.{needs}
 use Rattle.frame_writing.proofs.fixed_cyclic.Statement.{statement}
 use Rattle.frame_writing.proofs.fixed_cyclic.Tie as tie
 

@@ -1,8 +1,7 @@
 -- `frame_writing::fixed_fields` meets its contract.
-use mathlib.Core.Path.{_∙_, ap, sym}
+use Rattle.laws.specs.Usual.{sym, ap, _∙_, needs}
 use Rattle.frame_writing.specs.Writing.{fixedFor}
 use Rattle.frame.specs.declared.Code.{Code}
-use borrow.Author.Needs.{needs}
 use Rattle.frame_writing.proofs.fixed_fields.Statement.{statement}
 use Rattle.frame_writing.proofs.fixed_fields.Tie as tie
 

@@ -1,7 +1,6 @@
 -- `frame_writing::header_front` meets its contract.
-use mathlib.Core.Path.{refl}
+use Rattle.laws.specs.Usual.{refl, needs}
 use Rattle.frame_writing.specs.Writing.{frontOf}
-use borrow.Author.Needs.{needs}
 use Rattle.frame_writing.proofs.header_front.Statement.{statement}
 use Rattle.frame_writing.proofs.header_front.Tie as tie
 

@@ -1,15 +1,11 @@
 -- `frame_writing::put_header` meets its contract.
-use mathlib.Core.Path.{_≡_, refl, ap, ap₂, sym, _∙_}
-use mathlib.Core.List.{List, _++_}
-use Prim.Native.Nat.{ℕ, _+_, _≤_}
+use Rattle.laws.specs.Usual.{_≡_, refl, sym, ap, ap₂, _∙_, List, _++_, ℕ, _+_, _≤_, arith, length, needs}
 use native.Mathlib.Nat.{zero-add}
-use native.Mathlib.Omega.{arith}
-use lib.ListN.{length, length-append}
+use lib.ListN.{length-append}
 use Rattle.copying.specs.Laws.{paste-append}
 use Rattle.copying.specs.Pasted.{pasted}
 use Rattle.frame_writing.specs.Lengths.{length-front}
 use Rattle.frame_writing.specs.Writing.{frontOf, between, backOf, headerOf}
-use borrow.Author.Needs.{needs}
 use Rattle.frame_writing.proofs.put_header.Statement.{statement}
 use Rattle.frame_writing.proofs.put_header.Tie as tie
 

@@ -1,7 +1,6 @@
 -- `frame_writing::whole_length` meets its contract.
-use native.Mathlib.Omega.{arith}
+use Rattle.laws.specs.Usual.{arith, needs}
 use Rattle.frame_writing.proofs.Sizes.{data-within}
-use borrow.Author.Needs.{needs}
 use Rattle.frame_writing.proofs.whole_length.Statement.{statement}
 use Rattle.frame_writing.proofs.whole_length.Tie as tie
 

@@ -1,10 +1,6 @@
 -- `frame_writing::write_frame` meets its contract.
-use mathlib.Core.Path.{_∙_, ap}
-use mathlib.Core.List.{List}
-use Prim.Native.Nat.{ℕ, _-_, _≤_, _<_}
-use native.Mathlib.Omega.{arith}
+use Rattle.laws.specs.Usual.{ap, _∙_, List, ℕ, _-_, _<_, _≤_, arith, length, take, needs}
 use native.Mathlib.Nat.{sub-zero}
-use lib.ListN.{length, take}
 use borrow.Author.Tests.{lt-leb, le-leb}
 use Rattle.copying.specs.Pasted.{pasted}
 use Rattle.frame.specs.declared.Fields.{Fields}
@@ -12,7 +8,6 @@ use Rattle.frame_reading.specs.Reading.{dataSize}
 use Rattle.frame_writing.specs.Steps.{in-two-steps}
 use Rattle.frame_writing.specs.Writing.{fixed, headerOf, wholeLength}
 use Rattle.frame_writing.specs.declared.Written.the-variants.{Octets}
-use borrow.Author.Needs.{needs}
 use Rattle.frame_writing.proofs.write_frame.Statement.{statement}
 use Rattle.frame_writing.proofs.write_frame.Tie as tie
 

@@ -1,9 +1,8 @@
 -- `hearing::accept` meets its contract.
-use mathlib.Core.Path.{_∙_}
+use Rattle.laws.specs.Usual.{_∙_, needs}
 use Rattle.frame.specs.Codes.{isCyclic}
 use Rattle.laws.specs.Tests.{second}
 use Rattle.station.specs.Rules.State.{isParticipating}
-use borrow.Author.Needs.{needs}
 use Rattle.hearing.proofs.accept.Statement.{statement}
 use Rattle.hearing.proofs.accept.Tie as tie
 

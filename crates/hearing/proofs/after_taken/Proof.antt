@@ -1,6 +1,5 @@
 -- `hearing::after_taken` meets its contract.
-use mathlib.Core.Path.{_∙_}
-use borrow.Author.Needs.{needs}
+use Rattle.laws.specs.Usual.{_∙_, needs}
 use Rattle.hearing.proofs.after_taken.Statement.{statement}
 use Rattle.hearing.proofs.after_taken.Tie as tie
 

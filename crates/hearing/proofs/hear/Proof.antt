@@ -1,10 +1,6 @@
 -- `hearing::hear` meets its contract.
-use mathlib.Core.Path.{_≡_, refl, sym, _∙_}
-use mathlib.Core.Bool.{Bool, true, false, not, _&&_, _||_}
-use lib.Dec.{eqb}
-use lib.ListN.{length}
+use Rattle.laws.specs.Usual.{_≡_, refl, sym, _∙_, Bool, true, false, not, _&&_, _||_, length, eqb, needs}
 use Rattle.laws.specs.Tests.{first}
-use borrow.Author.Needs.{needs}
 use Rattle.hearing.proofs.hear.Statement.{statement}
 use Rattle.hearing.proofs.hear.Tie as tie
 

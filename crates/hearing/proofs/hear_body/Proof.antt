@@ -1,6 +1,5 @@
 -- `hearing::hear_body` meets its contract.
-use mathlib.Core.Path.{sym, _∙_}
-use borrow.Author.Needs.{needs}
+use Rattle.laws.specs.Usual.{sym, _∙_, needs}
 use Rattle.hearing.proofs.hear_body.Statement.{statement}
 use Rattle.hearing.proofs.hear_body.Tie as tie
 

@@ -1,7 +1,5 @@
 -- `hearing::hear_header` meets its contract.
-use mathlib.Core.Path.{sym, _∙_}
-use lib.ListN.{length}
-use borrow.Author.Needs.{needs}
+use Rattle.laws.specs.Usual.{sym, _∙_, length, needs}
 use Rattle.hearing_data.specs.Body.{body-read}
 use Rattle.hearing.proofs.hear_header.Statement.{statement}
 use Rattle.hearing.proofs.hear_header.Tie as tie

@@ -1,5 +1,4 @@
-use mathlib.Core.Path.{_∙_}
-use borrow.Author.Needs.{needs}
+use Rattle.laws.specs.Usual.{_∙_, needs}
 use Rattle.hearing.proofs.participant_hears.Statement.{statement}
 use Rattle.hearing.proofs.participant_hears.Tie as tie
 

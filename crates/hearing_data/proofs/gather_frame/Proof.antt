@@ -1,11 +1,8 @@
 -- `hearing_data::gather_frame` meets its contract.
-use mathlib.Core.Path.{_∙_}
-use lib.Dec.{eqb}
-use lib.ListN.{length}
+use Rattle.laws.specs.Usual.{_∙_, length, eqb, needs}
 use borrow.Author.Tests.{eqb-true}
 use Rattle.laws.specs.Tests.{first, second}
 use Rattle.hearing_data.specs.Body.{in-range, data-fit}
-use borrow.Author.Needs.{needs}
 use Rattle.hearing_data.proofs.gather_frame.Statement.{statement}
 use Rattle.hearing_data.proofs.gather_frame.Tie as tie
 

@@ -1,6 +1,5 @@
 -- `hearing_entering::begin_joining` meets its contract.
-use mathlib.Core.Path.{_∙_}
-use borrow.Author.Needs.{needs}
+use Rattle.laws.specs.Usual.{_∙_, needs}
 use Rattle.hearing_entering.proofs.begin_joining.Statement.{statement}
 use Rattle.hearing_entering.proofs.begin_joining.Tie as tie
 

@@ -1,8 +1,7 @@
 -- `hearing_entering::enter` meets its contract.
-use mathlib.Core.Path.{ap, sym, _∙_}
+use Rattle.laws.specs.Usual.{sym, ap, _∙_, needs}
 use Rattle.station.specs.Rules.Hearing.{enters}
 use Rattle.station.specs.declared.Phase.{Phase}
-use borrow.Author.Needs.{needs}
 use Rattle.hearing_entering.proofs.enter.Statement.{statement}
 use Rattle.hearing_entering.proofs.enter.Tie as tie
 

@@ -1,8 +1,7 @@
 -- `hearing_entering::joining_hears` meets its contract.
-use mathlib.Core.Path.{ap, sym, _∙_}
+use Rattle.laws.specs.Usual.{sym, ap, _∙_, needs}
 use Rattle.station.specs.Rules.Hearing.{enters}
 use Rattle.station.specs.Types.{Code, Joining}
-use borrow.Author.Needs.{needs}
 use Rattle.hearing_entering.proofs.joining_hears.Statement.{statement}
 use Rattle.hearing_entering.proofs.joining_hears.Tie as tie
 

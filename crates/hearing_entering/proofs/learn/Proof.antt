@@ -1,7 +1,6 @@
 -- `hearing_entering::learn` meets its contract.
-use mathlib.Core.Path.{_∙_}
+use Rattle.laws.specs.Usual.{_∙_, needs}
 use borrow.Author.Tests.{lt-ltb, le-ltb}
-use borrow.Author.Needs.{needs}
 use Rattle.hearing_entering.proofs.learn.Statement.{statement}
 use Rattle.hearing_entering.proofs.learn.Tie as tie
 

@@ -1,9 +1,6 @@
 -- `hearing_entering::rounds_after` meets its contract.
-use mathlib.Core.Path.{_≡_, sym, _∙_}
-use Prim.Native.Nat.{_+_, min}
-use native.Mathlib.Omega.{arith}
+use Rattle.laws.specs.Usual.{_≡_, sym, _∙_, _+_, min, arith, needs}
 use borrow.Author.Tests.{not-true, not-false}
-use borrow.Author.Needs.{needs}
 use Rattle.hearing_entering.proofs.rounds_after.Statement.{statement}
 use Rattle.hearing_entering.proofs.rounds_after.Tie as tie
 

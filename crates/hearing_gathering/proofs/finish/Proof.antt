@@ -1,7 +1,6 @@
 -- `hearing_gathering::finish` meets its contract.
-use mathlib.Core.Path.{_∙_}
+use Rattle.laws.specs.Usual.{_∙_, needs}
 use borrow.Author.Tests.{eq-eqb, ne-eqb}
-use borrow.Author.Needs.{needs}
 use Rattle.hearing_gathering.proofs.finish.Statement.{statement}
 use Rattle.hearing_gathering.proofs.finish.Tie as tie
 

@@ -1,10 +1,5 @@
 -- `hearing_gathering::gather` meets its contract.
-use mathlib.Core.Path.{_≡_, refl, ap, sym, _∙_}
-use mathlib.Core.Bool.{Bool, true, false, cond, _&&_}
-use mathlib.Core.List.{List}
-use Prim.Native.Nat.{ℕ}
-use native.Mathlib.Omega.{arith}
-use lib.Dec.{eqb}
+use Rattle.laws.specs.Usual.{_≡_, refl, sym, ap, _∙_, Bool, true, false, cond, _&&_, List, ℕ, arith, eqb, needs}
 use borrow.Author.Tests.{eqb-true}
 use Rattle.area.specs.Areas.{inRange}
 use Rattle.copying.specs.Pasted.{pasted}
@@ -12,7 +7,6 @@ use Rattle.laws.specs.Tests.{first, second}
 use Rattle.station.specs.Rules.Data.{Gathered, sameAreas, isNext, turnWritten, storing}
 use Rattle.station.specs.Rules.State.{nothing}
 use Rattle.station.specs.Types.{Areas, Fields, Kept, Written}
-use borrow.Author.Needs.{needs}
 use Rattle.hearing_gathering.proofs.gather.Statement.{statement}
 use Rattle.hearing_gathering.proofs.gather.Tie as tie
 

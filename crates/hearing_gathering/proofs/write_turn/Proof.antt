@@ -1,10 +1,6 @@
 -- `hearing_gathering::write_turn` meets its contract.
-use mathlib.Core.Path.{_≡_, ap, _∙_}
-use mathlib.Core.Bool.{true}
-use mathlib.Core.List.{List}
-use Prim.Native.Nat.{ℕ, _+_, _-_, _*_, _≤_}
-use native.Mathlib.Omega.{arith}
-use lib.ListN.{length, take, drop, length-take}
+use Rattle.laws.specs.Usual.{_≡_, ap, _∙_, true, List, ℕ, _+_, _-_, _*_, _≤_, arith, length, take, drop, needs}
+use lib.ListN.{length-take}
 use borrow.Author.Tests.{leb-true}
 use Rattle.area.specs.Areas.{inArea, inRange, spanOf}
 use Rattle.area.specs.declared.Area.the-variants.{One, Two}
@@ -14,7 +10,6 @@ use Rattle.block.specs.Cut.{fits}
 use Rattle.copying.specs.Pasted.{pasted}
 use Rattle.laws.specs.Tests.{first, second}
 use Rattle.station.specs.Rules.Data.{turnWritten}
-use borrow.Author.Needs.{needs}
 use Rattle.hearing_gathering.proofs.write_turn.Statement.{statement}
 use Rattle.hearing_gathering.proofs.write_turn.Tie as tie
 

@@ -1,7 +1,6 @@
 -- `hearing_token::outcome_of` meets its contract.
-use mathlib.Core.Path.{sym, _∙_}
+use Rattle.laws.specs.Usual.{sym, _∙_, needs}
 use borrow.Author.Tests.{eq-eqb, ne-eqb, not-true, not-false}
-use borrow.Author.Needs.{needs}
 use Rattle.hearing_token.proofs.outcome_of.Statement.{statement}
 use Rattle.hearing_token.proofs.outcome_of.Tie as tie
 

@@ -1,7 +1,5 @@
 -- `hearing_token::view_after` meets its contract.
-use mathlib.Core.Path.{_≡_}
-use Prim.Native.Nat.{min}
-use native.Mathlib.Omega.{arith}
+use Rattle.laws.specs.Usual.{_≡_, min, arith}
 use borrow.Author.Tests.{eq-eqb, ne-eqb}
 use Rattle.hearing_token.proofs.view_after.Statement.{statement}
 use Rattle.hearing_token.proofs.view_after.Tie as tie

@@ -1,6 +1,5 @@
 -- `hearing_token::view_heard` meets its contract.
-use mathlib.Core.Path.{_∙_}
-use borrow.Author.Needs.{needs}
+use Rattle.laws.specs.Usual.{_∙_, needs}
 use Rattle.hearing_token.proofs.view_heard.Statement.{statement}
 use Rattle.hearing_token.proofs.view_heard.Tie as tie
 

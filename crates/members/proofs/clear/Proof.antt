@@ -1,6 +1,5 @@
 -- `members::clear` meets its contract.
-use mathlib.Core.Path.{_∙_}
-use borrow.Author.Needs.{needs}
+use Rattle.laws.specs.Usual.{_∙_, needs}
 use Rattle.members.proofs.clear.Statement.{statement}
 use Rattle.members.proofs.clear.Tie as tie
 

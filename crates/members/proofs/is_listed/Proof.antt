@@ -1,7 +1,6 @@
 -- `members::is_listed` meets its contract.
-use mathlib.Core.Path.{ap}
+use Rattle.laws.specs.Usual.{ap, needs}
 use Rattle.members.specs.declared.Entry.{Entry}
-use borrow.Author.Needs.{needs}
 use Rattle.members.proofs.is_listed.Statement.{statement}
 use Rattle.members.proofs.is_listed.Tie as tie
 

@@ -1,10 +1,8 @@
 -- `members::miss` meets its contract.
-use mathlib.Core.Path.{ap, _∙_, sym}
-use native.Mathlib.Omega.{arith}
+use Rattle.laws.specs.Usual.{sym, ap, _∙_, arith, needs}
 use borrow.Author.Tests.{not-true, not-false, leb-false}
 use Rattle.members.specs.Members.{entryOf}
 use Rattle.members.specs.declared.Entry.{Entry}
-use borrow.Author.Needs.{needs}
 use Rattle.members.proofs.miss.Statement.{statement}
 use Rattle.members.proofs.miss.Tie as tie
 

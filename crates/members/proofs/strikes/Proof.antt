@@ -1,8 +1,6 @@
 -- `members::strikes` meets its contract.
-use mathlib.Core.Path.{ap}
-use lib.Dec.{leb}
+use Rattle.laws.specs.Usual.{ap, leb, needs}
 use Rattle.members.specs.declared.Entry.{Entry}
-use borrow.Author.Needs.{needs}
 use Rattle.members.proofs.strikes.Statement.{statement}
 use Rattle.members.proofs.strikes.Tie as tie
 

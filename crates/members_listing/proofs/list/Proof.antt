@@ -1,6 +1,5 @@
 -- `members_listing::list` meets its contract.
-use mathlib.Core.Path.{_∙_}
-use borrow.Author.Needs.{needs}
+use Rattle.laws.specs.Usual.{_∙_, needs}
 use Rattle.members_listing.proofs.list.Statement.{statement}
 use Rattle.members_listing.proofs.list.Tie as tie
 

@@ -1,6 +1,5 @@
 -- `members_listing::listed_areas` meets its contract.
-use mathlib.Core.Path.{_∙_}
-use borrow.Author.Needs.{needs}
+use Rattle.laws.specs.Usual.{_∙_, needs}
 use Rattle.members_listing.proofs.listed_areas.Statement.{statement}
 use Rattle.members_listing.proofs.listed_areas.Tie as tie
 

@@ -1,9 +1,5 @@
 -- `members_listing::overlaps_other` meets its contract.
-use mathlib.Core.Path.{_≡_, _∙_, sym}
-use Prim.Native.Nat.{_-_}
-use native.Mathlib.Omega.{arith}
-use lib.ListN.{length, drop}
-use borrow.Author.Needs.{needs}
+use Rattle.laws.specs.Usual.{_≡_, sym, _∙_, _-_, arith, length, drop, needs}
 use Rattle.members.specs.Listing.{overlapFrom}
 use Rattle.members.specs.Loops.{overlap-end, overlap-more}
 use Rattle.laws.specs.Lists.{unmapped}

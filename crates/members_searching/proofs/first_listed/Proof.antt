@@ -1,9 +1,5 @@
 -- `members_searching::first_listed` meets its contract.
-use mathlib.Core.Path.{_≡_, ap, _∙_, sym}
-use Prim.Native.Nat.{_-_}
-use native.Mathlib.Omega.{arith}
-use lib.ListN.{length, drop}
-use borrow.Author.Needs.{needs}
+use Rattle.laws.specs.Usual.{_≡_, sym, ap, _∙_, _-_, arith, length, drop, needs}
 use Rattle.members.specs.Members.{numbersFrom}
 use Rattle.members_searching.specs.Search.{firstIn}
 use Rattle.members.specs.Loops.{numbers-end, numbers-skip, numbers-first}

@@ -1,8 +1,7 @@
 -- `members_searching::next_after` meets its contract.
-use mathlib.Core.Path.{_∙_}
+use Rattle.laws.specs.Usual.{_∙_, needs}
 use borrow.Author.Tests.{lt-ltb, le-ltb}
 use Rattle.members_searching.specs.Found.{next-found}
-use borrow.Author.Needs.{needs}
 use Rattle.members_searching.proofs.next_after.Statement.{statement}
 use Rattle.members_searching.proofs.next_after.Tie as tie
 

@@ -1,7 +1,6 @@
 -- `members_searching::smallest` meets its contract.
-use mathlib.Core.Path.{_∙_}
+use Rattle.laws.specs.Usual.{_∙_, needs}
 use Rattle.members_searching.specs.Found.{smallest-found}
-use borrow.Author.Needs.{needs}
 use Rattle.members_searching.proofs.smallest.Statement.{statement}
 use Rattle.members_searching.proofs.smallest.Tie as tie
 

@@ -1,7 +1,6 @@
 -- `panel::figure_of` meets its contract.
-use mathlib.Core.Path.{_∙_, sym}
+use Rattle.laws.specs.Usual.{sym, _∙_, needs}
 use borrow.Author.Tests.{lt-ltb, le-ltb}
-use borrow.Author.Needs.{needs}
 use Rattle.panel.proofs.figure_of.Statement.{statement}
 use Rattle.panel.proofs.figure_of.Tie as tie
 

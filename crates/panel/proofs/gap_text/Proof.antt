@@ -1,7 +1,6 @@
 -- `panel::gap_text` meets its contract.
-use mathlib.Core.Path.{_∙_, sym}
+use Rattle.laws.specs.Usual.{sym, _∙_, needs}
 use borrow.Author.Tests.{ltb-false}
-use borrow.Author.Needs.{needs}
 use Rattle.panel.proofs.gap_text.Statement.{statement}
 use Rattle.panel.proofs.gap_text.Tie as tie
 

@@ -1,8 +1,6 @@
 -- `panel::take` meets its contract.
-use mathlib.Core.Path.{_≡_}
+use Rattle.laws.specs.Usual.{_≡_, _+_, min, arith}
 use mathlib.Core.Logic.{⊎-elim}
-use Prim.Native.Nat.{_+_, min}
-use native.Mathlib.Omega.{arith}
 use Rattle.panel.proofs.take.Statement.{statement}
 use Rattle.panel.proofs.take.Tie as tie
 

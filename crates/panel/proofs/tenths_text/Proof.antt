@@ -1,16 +1,12 @@
 -- `panel::tenths_text` meets its contract.
-use mathlib.Core.Path.{_≡_, ap, ap₂, _∙_}
-use mathlib.Core.List.{List, [], _∷_, _++_}
-use Prim.Native.Nat.{ℕ, _+_, _/_, _%_, _≤_}
-use native.Mathlib.Omega.{arith}
-use lib.ListN.{length, set, replicate, length-append, length-set}
+use Rattle.laws.specs.Usual.{_≡_, ap, ap₂, _∙_, List, [], _∷_, _++_, ℕ, _+_, _/_, _%_, _≤_, arith, length, set, replicate, needs}
+use lib.ListN.{length-append, length-set}
 use lib.Seq.{append-snoc}
 use Rattle.copying.specs.Laws.{paste-more, paste-append}
 use Rattle.copying.specs.Pasted.{pasted}
 use Rattle.text.specs.Decimal.{decimalOf}
 use Rattle.text.specs.Digits.{one-digit}
 use Rattle.panel.specs.Texts.{four-digits, six}
-use borrow.Author.Needs.{needs}
 use Rattle.panel.proofs.tenths_text.Statement.{statement}
 use Rattle.panel.proofs.tenths_text.Tie as tie
 

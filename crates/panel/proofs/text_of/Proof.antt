@@ -1,6 +1,5 @@
 -- `panel::text_of` meets its contract.
-use mathlib.Core.Path.{ap, sym, _∙_}
-use borrow.Author.Needs.{needs}
+use Rattle.laws.specs.Usual.{sym, ap, _∙_, needs}
 use Rattle.panel.specs.Panel.{shown}
 use Rattle.panel.proofs.text_of.Statement.{statement}
 use Rattle.panel.proofs.text_of.Tie as tie

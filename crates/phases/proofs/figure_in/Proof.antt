@@ -1,6 +1,5 @@
 -- `phases::figure_in` meets its contract.
-use mathlib.Core.Path.{_∙_}
-use borrow.Author.Needs.{needs}
+use Rattle.laws.specs.Usual.{_∙_, needs}
 use Rattle.phases.proofs.figure_in.Statement.{statement}
 use Rattle.phases.proofs.figure_in.Tie as tie
 

@@ -1,6 +1,5 @@
 -- `phases::off` meets its contract.
-use mathlib.Core.Path.{_∙_}
-use borrow.Author.Needs.{needs}
+use Rattle.laws.specs.Usual.{_∙_, needs}
 use Rattle.phases.proofs.off.Statement.{statement}
 use Rattle.phases.proofs.off.Tie as tie
 

@@ -1,11 +1,8 @@
 -- `replay_commands::command_of` meets its contract.
-use mathlib.Core.Path.{ap, sym, _∙_}
-use Prim.Native.Nat.{ℕ}
+use Rattle.laws.specs.Usual.{sym, ap, _∙_, ℕ, take, needs}
 use native.Mathlib.Nat.{sub-zero}
-use lib.ListN.{take}
 use lib.Seq.{take-all}
 use Rattle.replay_commands.specs.Commands.{commandBy}
-use borrow.Author.Needs.{needs}
 use Rattle.replay_commands.proofs.command_of.Statement.{statement}
 use Rattle.replay_commands.proofs.command_of.Tie as tie
 

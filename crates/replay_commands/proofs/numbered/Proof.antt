@@ -1,6 +1,5 @@
 -- `replay_commands::numbered` meets its contract.
-use mathlib.Core.Path.{sym, _∙_}
-use borrow.Author.Needs.{needs}
+use Rattle.laws.specs.Usual.{sym, _∙_, needs}
 use Rattle.replay_commands.proofs.numbered.Statement.{statement}
 use Rattle.replay_commands.proofs.numbered.Tie as tie
 

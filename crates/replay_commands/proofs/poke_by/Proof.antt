@@ -1,6 +1,5 @@
 -- `replay_commands::poke_by` meets its contract.
-use Prim.Native.Nat.{_+_}
-use native.Mathlib.Omega.{arith}
+use Rattle.laws.specs.Usual.{_+_, arith}
 use borrow.Author.Tests.{lt-ltb, le-leb, lt-leb}
 use Rattle.replay_commands.proofs.poke_by.Statement.{statement}
 use Rattle.replay_commands.proofs.poke_by.Tie as tie

@@ -1,12 +1,7 @@
 -- `replay_commands::poke_of` meets its contract.
-use mathlib.Core.Path.{_≡_, refl, ap, ap₂, sym, _∙_}
-use mathlib.Core.Bool.{Bool, true, false, cond, _&&_}
-use mathlib.Core.List.{List, []}
-use Prim.Native.Nat.{ℕ, _+_, _≤_, _<_}
+use Rattle.laws.specs.Usual.{_≡_, refl, sym, ap, ap₂, _∙_, Bool, true, false, cond, _&&_, List, [], ℕ, _+_, _<_, _≤_, arith, length, getD, drop, leb, needs}
 use native.Mathlib.Decide.{decLt}
-use native.Mathlib.Omega.{arith}
-use lib.Dec.{leb}
-use lib.ListN.{length, getD, drop, length-drop, List·getD-eq-default}
+use lib.ListN.{length-drop, List·getD-eq-default}
 use lib.Seq.{take-all}
 use borrow.Author.Tests.{le-leb, lt-leb, lt-ltb, leb-true}
 use Rattle.laws.specs.Lists.{to-end}
@@ -20,7 +15,6 @@ use Rattle.text.specs.Lines.{space}
 use Rattle.replay_words.specs.Words.{numberIn, numberAt, wordsBehind}
 use Rattle.replay_commands.specs.declared.Command.the-variants.{Poke, Bad}
 use Rattle.replay_words.specs.declared.Number.{Number}
-use borrow.Author.Needs.{needs}
 use Rattle.replay_commands.proofs.poke_of.Statement.{statement}
 use Rattle.replay_commands.proofs.poke_of.Tie as tie
 

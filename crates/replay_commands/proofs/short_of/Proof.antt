@@ -1,6 +1,5 @@
 -- `replay_commands::short_of` meets its contract.
-use mathlib.Core.Path.{sym, _∙_}
-use borrow.Author.Needs.{needs}
+use Rattle.laws.specs.Usual.{sym, _∙_, needs}
 use Rattle.replay_commands.proofs.short_of.Statement.{statement}
 use Rattle.replay_commands.proofs.short_of.Tie as tie
 

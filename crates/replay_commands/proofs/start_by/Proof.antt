@@ -1,9 +1,5 @@
 -- `replay_commands::start_by` meets its contract.
-use mathlib.Core.Path.{_≡_}
-use mathlib.Core.Bool.{Bool, true, _&&_}
-use Prim.Native.Nat.{_≤_}
-use native.Mathlib.Omega.{arith}
-use lib.Dec.{leb}
+use Rattle.laws.specs.Usual.{_≡_, Bool, true, _&&_, _≤_, arith, leb}
 use borrow.Author.Tests.{leb-true}
 use Rattle.laws.specs.Tests.{first, second}
 use Rattle.replay_commands.proofs.start_by.Statement.{statement}

@@ -1,10 +1,5 @@
 -- `replay_commands::start_of` meets its contract.
-use mathlib.Core.Path.{_≡_, refl, ap, sym, _∙_}
-use mathlib.Core.Bool.{Bool, cond}
-use mathlib.Core.List.{List}
-use Prim.Native.Nat.{ℕ}
-use lib.Dec.{leb}
-use lib.ListN.{length}
+use Rattle.laws.specs.Usual.{_≡_, refl, sym, ap, _∙_, Bool, cond, List, ℕ, length, leb, needs}
 use borrow.Author.Tests.{le-leb, lt-leb}
 use Rattle.replay_commands.specs.Commands.{startBy, startOf}
 use Rattle.text.specs.Lines.{space}
@@ -13,7 +8,6 @@ use Rattle.replay_words.specs.WordLaws.{read-at}
 use Rattle.replay_words.specs.Words.{numberIn, numberAt, wordsBehind}
 use Rattle.replay_commands.specs.declared.Command.the-variants.{Bad}
 use Rattle.replay_words.specs.declared.Number.{Number}
-use borrow.Author.Needs.{needs}
 use Rattle.replay_commands.proofs.start_of.Statement.{statement}
 use Rattle.replay_commands.proofs.start_of.Tie as tie
 

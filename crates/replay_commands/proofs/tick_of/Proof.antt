@@ -1,10 +1,5 @@
 -- `replay_commands::tick_of` meets its contract.
-use mathlib.Core.Path.{_≡_, refl, ap, sym, _∙_}
-use mathlib.Core.Bool.{Bool, cond, _&&_}
-use mathlib.Core.List.{List}
-use Prim.Native.Nat.{ℕ}
-use lib.Dec.{leb}
-use lib.ListN.{length}
+use Rattle.laws.specs.Usual.{_≡_, refl, sym, ap, _∙_, Bool, cond, _&&_, List, ℕ, length, leb, needs}
 use Rattle.replay_commands.specs.Commands.{tickOf}
 use Rattle.text.specs.Lines.{space}
 use Rattle.text_reading.specs.PartLaws.{ended-at}
@@ -12,7 +7,6 @@ use Rattle.replay_words.specs.WordLaws.{read-at}
 use Rattle.replay_words.specs.Words.{numberIn, numberAt, wordsBehind}
 use Rattle.replay_commands.specs.declared.Command.the-variants.{Tick, Bad}
 use Rattle.replay_words.specs.declared.Number.{Number}
-use borrow.Author.Needs.{needs}
 use Rattle.replay_commands.proofs.tick_of.Statement.{statement}
 use Rattle.replay_commands.proofs.tick_of.Tie as tie
 

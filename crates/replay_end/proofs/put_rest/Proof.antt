@@ -1,10 +1,7 @@
 -- `replay_end::put_rest` meets its contract.
-use mathlib.Core.Path.{_≡_, refl, sym}
-use mathlib.Core.Bool.{true, false}
-use lib.Dec.{ltb}
+use Rattle.laws.specs.Usual.{_≡_, refl, sym, true, false, ltb, needs}
 use borrow.Author.Tests.{lt-ltb, le-ltb}
 use Rattle.copying.specs.Laws.{paste-nothing}
-use borrow.Author.Needs.{needs}
 use Rattle.replay_end.proofs.put_rest.Statement.{statement}
 use Rattle.replay_end.proofs.put_rest.Tie as tie
 

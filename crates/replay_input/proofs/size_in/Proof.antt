@@ -1,7 +1,5 @@
 -- `replay_input::size_in` meets its contract.
-use mathlib.Core.Path.{_≡_}
-use Prim.Native.Nat.{ℕ, _-_, _/_}
-use native.Mathlib.Omega.{arith}
+use Rattle.laws.specs.Usual.{_≡_, ℕ, _-_, _/_, arith}
 use Rattle.replay_input.proofs.size_in.Statement.{statement}
 use Rattle.replay_input.proofs.size_in.Tie as tie
 

@@ -1,7 +1,6 @@
 -- `replay_input::store` meets its contract.
-use mathlib.Core.Path.{sym}
+use Rattle.laws.specs.Usual.{sym, needs}
 use lib.Seq.{set-out}
-use borrow.Author.Needs.{needs}
 use Rattle.replay_input.proofs.store.Statement.{statement}
 use Rattle.replay_input.proofs.store.Tie as tie
 

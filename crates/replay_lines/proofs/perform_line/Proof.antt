@@ -1,15 +1,11 @@
 -- `replay_lines::perform_line` meets its contract.
-use mathlib.Core.Path.{_≡_, ap, _∙_}
-use mathlib.Core.List.{List}
-use Prim.Native.Nat.{ℕ}
-use lib.ListN.{length}
+use Rattle.laws.specs.Usual.{_≡_, ap, _∙_, List, ℕ, length, needs}
 use Rattle.replay_commands.specs.Commands.{commandIn}
 use Rattle.replay_commands.specs.declared.Command.{Command}
 use Rattle.copying.specs.Pasted.{pasted}
 use Rattle.replay_performing.specs.Replaying.{Kept, keeping, Performed, performed}
 use Rattle.station.specs.declared.Station.{Station}
 use Rattle.replay_lines.specs.Replay.{Carried, held, lineDone}
-use borrow.Author.Needs.{needs}
 use Rattle.replay_lines.proofs.perform_line.Statement.{statement}
 use Rattle.replay_lines.proofs.perform_line.Tie as tie
 

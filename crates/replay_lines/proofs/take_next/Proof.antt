@@ -1,8 +1,5 @@
 -- `replay_lines::take_next` meets its contract.
-use mathlib.Core.Path.{_≡_, ap, ap₂, sym, _∙_}
-use mathlib.Core.List.{List}
-use Prim.Native.Nat.{ℕ}
-use lib.ListN.{length, drop}
+use Rattle.laws.specs.Usual.{_≡_, sym, ap, ap₂, _∙_, List, ℕ, length, drop, needs}
 use Rattle.copying.specs.Laws.{paste-nothing}
 use Rattle.copying.specs.Pasted.{pasted}
 use Rattle.text_feeding.specs.Scan.{Scan, ended-taken, ended-said, open-taken, open-said}
@@ -12,7 +9,6 @@ use Rattle.replay_input.specs.declared.Scanned.{Scanned}
 use Rattle.replay_performing.specs.Replaying.{Kept, keeping}
 use Rattle.replay_lines.specs.Replay.{carried, replay}
 use Rattle.replay_lines.specs.Scanned.{scan-taken}
-use borrow.Author.Needs.{needs}
 use Rattle.replay_lines.proofs.take_next.Statement.{statement}
 use Rattle.replay_lines.proofs.take_next.Tie as tie
 

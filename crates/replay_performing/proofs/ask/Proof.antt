@@ -1,9 +1,7 @@
 -- `replay_performing::ask` meets its contract.
-use mathlib.Core.Path.{ap, ap₂, _∙_}
-use lib.ListN.{length}
+use Rattle.laws.specs.Usual.{ap, ap₂, _∙_, length, needs}
 use Rattle.copying.specs.Pasted.{pasted}
 use Rattle.replay_replies.specs.Replies.{askedText}
-use borrow.Author.Needs.{needs}
 use Rattle.replay_performing.proofs.ask.Statement.{statement}
 use Rattle.replay_performing.proofs.ask.Tie as tie
 

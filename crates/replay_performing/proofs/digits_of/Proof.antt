@@ -1,9 +1,5 @@
 -- `replay_performing::digits_of` meets its contract.
-use mathlib.Core.Path.{_∙_}
-use Prim.Native.Nat.{_*_}
-use native.Mathlib.Omega.{arith}
-use lib.ListN.{length}
-use borrow.Author.Needs.{needs}
+use Rattle.laws.specs.Usual.{_∙_, _*_, arith, length, needs}
 use Rattle.replay_performing.proofs.Buffers.{all-behind}
 use Rattle.replay_performing.proofs.digits_of.Statement.{statement}
 use Rattle.replay_performing.proofs.digits_of.Tie as tie

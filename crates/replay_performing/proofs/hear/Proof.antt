@@ -1,17 +1,13 @@
 -- `replay_performing::hear` meets its contract.
-use mathlib.Core.Path.{ap, _∙_}
-use mathlib.Core.List.{List}
-use Prim.Native.Nat.{ℕ, _-_}
-use native.Mathlib.Omega.{arith}
+use Rattle.laws.specs.Usual.{ap, _∙_, List, ℕ, _-_, arith, length, take, replicate, needs}
 use native.Mathlib.Nat.{sub-zero}
-use lib.ListN.{length, take, replicate, length-take}
+use lib.ListN.{length-take}
 use Rattle.text_hexadecimal.specs.Octets.{octetsOf}
 use Rattle.copying.specs.Laws.{front-read}
 use Rattle.copying.specs.Pasted.{pasted}
 use Rattle.replay_performing.specs.Cut.{hear-cut}
 use Rattle.replay_replies.specs.Replies.{heardText}
 use Rattle.station.specs.Rules.Hearing.{Hearing, hearOf}
-use borrow.Author.Needs.{needs}
 use Rattle.replay_performing.proofs.hear.Statement.{statement}
 use Rattle.replay_performing.proofs.hear.Tie as tie
 

@@ -1,12 +1,8 @@
 -- `replay_performing::peek` meets its contract.
-use mathlib.Core.Path.{ap, _∙_}
-use mathlib.Core.List.{List}
-use Prim.Native.Nat.{ℕ}
-use native.Mathlib.Omega.{arith}
-use lib.ListN.{length, drop, length-take, length-drop}
+use Rattle.laws.specs.Usual.{ap, _∙_, List, ℕ, arith, length, drop, needs}
+use lib.ListN.{length-take, length-drop}
 use Rattle.copying.specs.Pasted.{pasted}
 use Rattle.replay_reply_shown.specs.Shown.{octetsText}
-use borrow.Author.Needs.{needs}
 use Rattle.replay_performing.proofs.peek.Statement.{statement}
 use Rattle.replay_performing.proofs.peek.Tie as tie
 

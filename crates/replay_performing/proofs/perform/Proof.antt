@@ -1,10 +1,8 @@
 -- `replay_performing::perform` meets its contract.
-use mathlib.Core.Path.{refl, ap, _∙_}
-use lib.ListN.{length}
+use Rattle.laws.specs.Usual.{refl, ap, _∙_, length, needs}
 use Rattle.copying.specs.Pasted.{pasted}
 use Rattle.replay_replies.specs.Replies.{switchedText}
 use Rattle.replay_reply_shown.specs.Shown.{panelText}
-use borrow.Author.Needs.{needs}
 use Rattle.replay_performing.proofs.perform.Statement.{statement}
 use Rattle.replay_performing.proofs.perform.Tie as tie
 

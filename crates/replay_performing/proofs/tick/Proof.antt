@@ -1,9 +1,7 @@
 -- `replay_performing::tick` meets its contract.
-use mathlib.Core.Path.{ap, _∙_}
-use lib.ListN.{length}
+use Rattle.laws.specs.Usual.{ap, _∙_, length, needs}
 use Rattle.copying.specs.Pasted.{pasted}
 use Rattle.replay_reply_words.specs.Answers.{tickedText}
-use borrow.Author.Needs.{needs}
 use Rattle.replay_performing.proofs.tick.Statement.{statement}
 use Rattle.replay_performing.proofs.tick.Tie as tie
 

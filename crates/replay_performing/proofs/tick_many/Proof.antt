@@ -1,7 +1,5 @@
 -- `replay_performing::tick_many` meets its contract.
-use mathlib.Core.Path.{_≡_, refl, ap, ap₂, _∙_}
-use Prim.Native.Nat.{ℕ, suc, _-_}
-use native.Mathlib.Omega.{arith}
+use Rattle.laws.specs.Usual.{_≡_, refl, ap, ap₂, _∙_, ℕ, suc, _-_, arith}
 use Rattle.replay_performing.specs.Replaying.{tickedOn}
 use Rattle.station.specs.Rules.Ticking.{Ticking}
 use Rattle.station.specs.Types.{Station, Ticked}

@@ -1,13 +1,9 @@
 -- `replay_performing::write` meets its contract.
-use mathlib.Core.Path.{_≡_, ap, sym, _∙_}
-use Prim.Native.Nat.{ℕ, _-_}
-use native.Mathlib.Omega.{arith}
-use lib.ListN.{length, take}
+use Rattle.laws.specs.Usual.{_≡_, sym, ap, _∙_, ℕ, _-_, arith, length, take, needs}
 use Rattle.text_hexadecimal.specs.Octets.{octetsOf}
 use Rattle.copying.specs.Laws.{paste-nothing}
 use Rattle.copying.specs.Pasted.{pasted}
 use borrow.Rule.Slice.PartMut.{putMid}
-use borrow.Author.Needs.{needs}
 use Rattle.replay_performing.proofs.Buffers.{put-front}
 use Rattle.replay_performing.proofs.write.Statement.{statement}
 use Rattle.replay_performing.proofs.write.Tie as tie

@@ -1,14 +1,10 @@
 -- `replay_replies::put_asked` meets its contract.
-use mathlib.Core.Path.{ap, _∙_}
-use mathlib.Core.List.{List}
-use Prim.Native.Nat.{ℕ}
-use native.Mathlib.Omega.{arith}
-use lib.ListN.{length, length-take}
+use Rattle.laws.specs.Usual.{ap, _∙_, List, ℕ, arith, length, needs}
+use lib.ListN.{length-take}
 use Rattle.copying.specs.Pasted.{pasted}
 use Rattle.replay_reply_parts.specs.Hex.{hexOf}
 use Rattle.replay_reply_parts.specs.Lines.{ended, spaced}
 use Rattle.replay_replies.specs.Replies.{frameWord, askedText}
-use borrow.Author.Needs.{needs}
 use Rattle.replay_replies.proofs.put_asked.Statement.{statement}
 use Rattle.replay_replies.proofs.put_asked.Tie as tie
 

@@ -1,13 +1,11 @@
 -- `replay_replies::put_frame` meets its contract.
-use mathlib.Core.List.{[], _∷_, _++_}
-use native.Mathlib.Omega.{arith}
+use Rattle.laws.specs.Usual.{[], _∷_, _++_, arith, needs}
 use Rattle.text.specs.Lines.{space, lineFeed}
 use Rattle.replay_reply_parts.specs.Hex.{hexOf}
 use Rattle.replay_reply_parts.specs.HexLaws.{hex-length}
 use Rattle.replay_reply_parts.specs.Lines.{ended, spaced}
 use Rattle.replay_reply_parts.specs.Written.{then, in-front}
 use Rattle.replay_replies.specs.Replies.{frameWord}
-use borrow.Author.Needs.{needs}
 use Rattle.replay_replies.proofs.put_frame.Statement.{statement}
 use Rattle.replay_replies.proofs.put_frame.Tie as tie
 

@@ -1,13 +1,11 @@
 -- `replay_reply_outcome::put_outcome` meets its contract.
-use mathlib.Core.List.{[], _∷_, _++_}
-use native.Mathlib.Omega.{arith}
+use Rattle.laws.specs.Usual.{[], _∷_, _++_, arith, needs}
 use lib.ListN.{length-append}
 use Rattle.text.specs.Lines.{lineFeed}
 use Rattle.replay_reply_parts.specs.Lines.{ended}
 use Rattle.replay_reply_parts.specs.Written.{then, in-front}
 use Rattle.replay_reply_outcome.specs.Outcome.{dataWord}
 use Rattle.replay_reply_outcome.specs.Room.{data-length}
-use borrow.Author.Needs.{needs}
 use Rattle.replay_reply_outcome.proofs.put_outcome.Statement.{statement}
 use Rattle.replay_reply_outcome.proofs.put_outcome.Tie as tie
 

@@ -1,11 +1,8 @@
 -- `replay_reply_parts::part_of` meets its contract.
-use mathlib.Core.Path.{_≡_, ap, sym, _∙_}
-use Prim.Native.Nat.{ℕ, _+_, _-_}
-use native.Mathlib.Omega.{arith}
-use lib.ListN.{take, drop, length-drop, drop-of-length-le}
+use Rattle.laws.specs.Usual.{_≡_, sym, ap, _∙_, ℕ, _+_, _-_, arith, take, drop, needs}
+use lib.ListN.{length-drop, drop-of-length-le}
 use lib.Seq.{take-nil, take-all}
 use Rattle.laws.specs.Lists.{to-end}
-use borrow.Author.Needs.{needs}
 use Rattle.replay_reply_parts.proofs.part_of.Statement.{statement}
 use Rattle.replay_reply_parts.proofs.part_of.Tie as tie
 

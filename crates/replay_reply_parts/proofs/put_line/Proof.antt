@@ -1,10 +1,8 @@
 -- `replay_reply_parts::put_line` meets its contract.
-use mathlib.Core.List.{[], _∷_}
-use native.Mathlib.Omega.{arith}
+use Rattle.laws.specs.Usual.{[], _∷_, arith, needs}
 use Rattle.text.specs.Lines.{lineFeed}
 use Rattle.replay_reply_parts.specs.Lines.{ended}
 use Rattle.replay_reply_parts.specs.Written.{then, in-front}
-use borrow.Author.Needs.{needs}
 use Rattle.replay_reply_parts.proofs.put_line.Statement.{statement}
 use Rattle.replay_reply_parts.proofs.put_line.Tie as tie
 

@@ -1,7 +1,6 @@
 -- `replay_reply_parts::put_mark` meets its contract.
-use mathlib.Core.Path.{refl}
+use Rattle.laws.specs.Usual.{refl, needs}
 use Rattle.copying.specs.Laws.{paste-one}
-use borrow.Author.Needs.{needs}
 use Rattle.replay_reply_parts.proofs.put_mark.Statement.{statement}
 use Rattle.replay_reply_parts.proofs.put_mark.Tie as tie
 

@@ -1,9 +1,7 @@
 -- `replay_reply_parts::put_number` meets its contract.
-use mathlib.Core.List.{[], _∷_}
-use native.Mathlib.Omega.{arith}
+use Rattle.laws.specs.Usual.{[], _∷_, arith, needs}
 use Rattle.text.specs.Decimal.{decimalOf}
 use Rattle.replay_reply_parts.specs.Written.{then}
-use borrow.Author.Needs.{needs}
 use Rattle.replay_reply_parts.proofs.put_number.Statement.{statement}
 use Rattle.replay_reply_parts.proofs.put_number.Tie as tie
 

@@ -1,12 +1,10 @@
 -- `replay_reply_shown::put_octets` meets its contract.
-use mathlib.Core.List.{[], _∷_}
-use native.Mathlib.Omega.{arith}
+use Rattle.laws.specs.Usual.{[], _∷_, arith, needs}
 use Rattle.text.specs.Lines.{lineFeed}
 use Rattle.replay_reply_parts.specs.Hex.{hexOf}
 use Rattle.replay_reply_shown.specs.Shown.{octetsText}
 use Rattle.replay_reply_parts.specs.HexLaws.{hex-length}
 use Rattle.replay_reply_parts.specs.Written.{then, in-front}
-use borrow.Author.Needs.{needs}
 use Rattle.replay_reply_shown.proofs.put_octets.Statement.{statement}
 use Rattle.replay_reply_shown.proofs.put_octets.Tie as tie
 

@@ -1,15 +1,11 @@
 -- `replay_reply_shown::put_panel` meets its contract.
-use mathlib.Core.Path.{_≡_, ap, _∙_}
-use mathlib.Core.List.{List}
-use Prim.Native.Nat.{ℕ, _-_}
-use native.Mathlib.Omega.{arith}
-use lib.ListN.{length, take, replicate, length-append, length-take}
+use Rattle.laws.specs.Usual.{_≡_, ap, _∙_, List, ℕ, _-_, arith, length, take, replicate, needs}
+use lib.ListN.{length-append, length-take}
 use Rattle.copying.specs.Pasted.{pasted}
 use Rattle.panel.specs.Panel.{textOf}
 use Rattle.panel.specs.Texts.{shown-text}
 use Rattle.panel.specs.declared.Text.{Text}
 use Rattle.replay_reply_parts.specs.Lines.{ended}
-use borrow.Author.Needs.{needs}
 use Rattle.replay_reply_shown.proofs.put_panel.Statement.{statement}
 use Rattle.replay_reply_shown.proofs.put_panel.Tie as tie
 

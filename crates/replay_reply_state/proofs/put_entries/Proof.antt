@@ -1,10 +1,6 @@
 -- `replay_reply_state::put_entries` meets its contract.
-use mathlib.Core.Path.{_≡_, refl, ap, sym, _∙_}
-use mathlib.Core.List.{_++_}
-use Prim.Native.Nat.{ℕ, _+_, _-_, _<_, _≤_}
+use Rattle.laws.specs.Usual.{_≡_, refl, sym, ap, _∙_, _++_, ℕ, _+_, _-_, _<_, _≤_, arith, length, getD, take, needs}
 use native.Mathlib.Numerals.{add-one}
-use native.Mathlib.Omega.{arith}
-use lib.ListN.{length, take, getD}
 use lib.Seq.{length-take-le, take-suc, take-all}
 use Rattle.copying.specs.Laws.{paste-nothing}
 use Rattle.members.specs.Members.{nobody}
@@ -13,7 +9,6 @@ use Rattle.laws.specs.Lists.{unmapped}
 use Rattle.replay_reply_state.specs.State.{entryText, entriesFrom}
 use Rattle.replay_reply_state.specs.Room.{entries-length}
 use Rattle.replay_reply_parts.specs.Written.{Written, then}
-use borrow.Author.Needs.{needs}
 use Rattle.replay_reply_state.proofs.put_entries.Statement.{statement}
 use Rattle.replay_reply_state.proofs.put_entries.Tie as tie
 

@@ -1,8 +1,6 @@
 -- `replay_reply_state::put_entry` meets its contract.
-use mathlib.Core.Path.{sym}
-use native.Mathlib.Omega.{arith}
+use Rattle.laws.specs.Usual.{sym, arith, needs}
 use Rattle.copying.specs.Laws.{paste-nothing}
-use borrow.Author.Needs.{needs}
 use Rattle.replay_reply_state.proofs.put_entry.Statement.{statement}
 use Rattle.replay_reply_state.proofs.put_entry.Tie as tie
 

@@ -1,6 +1,5 @@
 -- `replay_reply_state::put_head` meets its contract.
-use mathlib.Core.List.{_∷_, _++_}
-use native.Mathlib.Omega.{arith}
+use Rattle.laws.specs.Usual.{_∷_, _++_, arith, needs}
 use lib.ListN.{length-append}
 use Rattle.text.specs.Decimal.{decimalOf}
 use Rattle.text.specs.Digits.{at-most}
@@ -8,7 +7,6 @@ use Rattle.replay_reply_state.specs.Room.{phase-length}
 use Rattle.text.specs.Lines.{space}
 use Rattle.replay_reply_state.specs.State.{phaseWord}
 use Rattle.replay_reply_parts.specs.Written.{then}
-use borrow.Author.Needs.{needs}
 use Rattle.replay_reply_state.proofs.put_head.Statement.{statement}
 use Rattle.replay_reply_state.proofs.put_head.Tie as tie
 

@@ -1,12 +1,10 @@
 -- `replay_reply_state::put_pair` meets its contract.
-use mathlib.Core.List.{_∷_}
-use native.Mathlib.Omega.{arith}
+use Rattle.laws.specs.Usual.{_∷_, arith, needs}
 use Rattle.text.specs.Decimal.{decimalOf}
 use Rattle.text.specs.Digits.{at-most}
 use Rattle.text.specs.Lines.{comma}
 use Rattle.replay_reply_state.specs.Room.{pair-length}
 use Rattle.replay_reply_parts.specs.Written.{then}
-use borrow.Author.Needs.{needs}
 use Rattle.replay_reply_state.proofs.put_pair.Statement.{statement}
 use Rattle.replay_reply_state.proofs.put_pair.Tie as tie
 

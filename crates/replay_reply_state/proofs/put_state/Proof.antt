@@ -1,13 +1,10 @@
 -- `replay_reply_state::put_state` meets its contract.
-use mathlib.Core.List.{[], _∷_, _++_}
-use Prim.Native.Nat.{_+_, _≤_}
-use native.Mathlib.Omega.{arith}
-use lib.ListN.{length, length-append}
+use Rattle.laws.specs.Usual.{[], _∷_, _++_, _+_, _≤_, arith, length, needs}
+use lib.ListN.{length-append}
 use Rattle.text.specs.Lines.{lineFeed}
 use Rattle.replay_reply_parts.specs.Lines.{ended}
 use Rattle.replay_reply_state.specs.State.{headText, entriesFrom, stateText}
 use Rattle.replay_reply_parts.specs.Written.{then, in-front}
-use borrow.Author.Needs.{needs}
 use Rattle.replay_reply_state.proofs.put_state.Statement.{statement}
 use Rattle.replay_reply_state.proofs.put_state.Tie as tie
 

@@ -1,13 +1,11 @@
 -- `replay_reply_words::put_refused` meets its contract.
-use mathlib.Core.List.{[], _∷_, _++_}
-use native.Mathlib.Omega.{arith}
+use Rattle.laws.specs.Usual.{[], _∷_, _++_, arith, needs}
 use Rattle.text.specs.Decimal.{decimalOf}
 use Rattle.text.specs.Digits.{at-most}
 use Rattle.text.specs.Lines.{space, lineFeed}
 use Rattle.replay_reply_parts.specs.Lines.{ended}
 use Rattle.replay_reply_words.specs.Words.{refusedWord}
 use Rattle.replay_reply_parts.specs.Written.{then, in-front}
-use borrow.Author.Needs.{needs}
 use Rattle.replay_reply_words.proofs.put_refused.Statement.{statement}
 use Rattle.replay_reply_words.proofs.put_refused.Tie as tie
 

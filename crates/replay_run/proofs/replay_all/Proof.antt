@@ -1,9 +1,5 @@
 -- `replay_run::replay_all` meets its contract.
-use mathlib.Core.Path.{_≡_, refl, ap, ap₂, sym, _∙_}
-use mathlib.Core.List.{List, [], _++_}
-use Prim.Native.Nat.{ℕ}
-use native.Mathlib.Omega.{arith}
-use lib.ListN.{length, take}
+use Rattle.laws.specs.Usual.{_≡_, refl, sym, ap, ap₂, _∙_, List, [], _++_, ℕ, arith, length, take}
 use borrow.Author.Tests.{ltb-true}
 use Rattle.text_feeding.specs.Fed.{fed-parts}
 use Rattle.replay_input.specs.Gathering.{fresh}

@@ -1,7 +1,6 @@
 -- `replay_run::replay_input` meets its contract.
-use mathlib.Core.Path.{ap}
+use Rattle.laws.specs.Usual.{ap, needs}
 use Rattle.replay_lines.specs.Replay.{Carried}
-use borrow.Author.Needs.{needs}
 use Rattle.replay_run.proofs.replay_input.Statement.{statement}
 use Rattle.replay_run.proofs.replay_input.Tie as tie
 

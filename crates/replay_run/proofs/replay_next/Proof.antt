@@ -1,11 +1,9 @@
 -- `replay_run::replay_next` meets its contract.
-use mathlib.Core.Path.{sym, _∙_}
-use lib.ListN.{replicate}
+use Rattle.laws.specs.Usual.{sym, _∙_, replicate, needs}
 use Rattle.text_feeding.specs.Feeding.{between}
 use Rattle.text_feeding.specs.Front.{front-within, front-read}
 use Rattle.text_feeding.specs.Scan.{ended-onward, open-onward}
 use Rattle.replay_lines.specs.Replay.{held, answers}
-use borrow.Author.Needs.{needs}
 use Rattle.replay_run.proofs.replay_next.Statement.{statement}
 use Rattle.replay_run.proofs.replay_next.Tie as tie
 

@@ -1,9 +1,6 @@
 -- `replay_run::replay_part` meets its contract.
-use mathlib.Core.Path.{_≡_, refl, sym, _∙_}
-use mathlib.Core.Bool.{false, true≢false}
-use Prim.Native.Nat.{_-_, _≤_}
-use native.Mathlib.Omega.{arith}
-use lib.ListN.{length, take}
+use Rattle.laws.specs.Usual.{_≡_, refl, sym, _∙_, false, _-_, _≤_, arith, length, take}
+use mathlib.Core.Bool.{true≢false}
 use borrow.Author.Tests.{ltb-true, ltb-false}
 use Rattle.text_feeding.specs.Feeding.{Onward}
 use Rattle.text_feeding.specs.Scan.{taken-on, onward-all}

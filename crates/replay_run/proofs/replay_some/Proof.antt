@@ -1,8 +1,7 @@
 -- `replay_run::replay_some` meets its contract.
-use mathlib.Core.Path.{ap, _∙_}
+use Rattle.laws.specs.Usual.{ap, _∙_, needs}
 use Rattle.text_feeding.specs.Scan.{read-arrived, read-taken}
 use Rattle.replay_lines.specs.Replay.{held, after}
-use borrow.Author.Needs.{needs}
 use Rattle.replay_run.proofs.replay_some.Statement.{statement}
 use Rattle.replay_run.proofs.replay_some.Tie as tie
 

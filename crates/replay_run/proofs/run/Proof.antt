@@ -1,8 +1,7 @@
 -- `replay_run::run` meets its contract.
-use lib.ListN.{replicate}
+use Rattle.laws.specs.Usual.{replicate, needs}
 use Rattle.text_feeding.specs.Front.{front-within, front-read}
 use Rattle.replay_end.specs.End.{answerToRest}
-use borrow.Author.Needs.{needs}
 use Rattle.replay_run.proofs.run.Statement.{statement}
 use Rattle.replay_run.proofs.run.Tie as tie
 

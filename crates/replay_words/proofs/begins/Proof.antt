@@ -1,11 +1,8 @@
 -- `replay_words::begins` meets its contract.
-use mathlib.Core.Path.{_≡_, refl, sym, _∙_}
-use Prim.Native.Nat.{_-_}
-use lib.ListN.{length, drop}
+use Rattle.laws.specs.Usual.{_≡_, refl, sym, _∙_, _-_, length, drop, needs}
 use borrow.Author.Tests.{eq-eqb}
 use Rattle.replay_words.specs.WordLaws.{begins-done, begins-short, begins-other, begins-more}
 use Rattle.replay_words.specs.Words.{begins}
-use borrow.Author.Needs.{needs}
 use Rattle.replay_words.proofs.begins.Statement.{statement}
 use Rattle.replay_words.proofs.begins.Tie as tie
 

@@ -1,8 +1,7 @@
 -- `replay_words::decimal` meets its contract.
-use mathlib.Core.Path.{ap, sym, _∙_}
+use Rattle.laws.specs.Usual.{sym, ap, _∙_, needs}
 use Rattle.text_reading.specs.Values.{numberOr}
 use Rattle.replay_words.specs.Words.{none}
-use borrow.Author.Needs.{needs}
 use Rattle.replay_words.proofs.decimal.Statement.{statement}
 use Rattle.replay_words.proofs.decimal.Tie as tie
 

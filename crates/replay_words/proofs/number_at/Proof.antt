@@ -1,16 +1,12 @@
 -- `replay_words::number_at` meets its contract.
-use mathlib.Core.Path.{_≡_, ap, ap₂, sym, _∙_}
-use mathlib.Core.List.{List}
-use Prim.Native.Nat.{ℕ, _+_, _-_, _≤_}
-use native.Mathlib.Omega.{arith}
-use lib.ListN.{length, take, drop, length-drop}
+use Rattle.laws.specs.Usual.{_≡_, sym, ap, ap₂, _∙_, List, ℕ, _+_, _-_, _≤_, arith, length, take, drop, needs}
+use lib.ListN.{length-drop}
 use Rattle.text.specs.Lines.{space}
 use Rattle.text_reading.specs.MarkLaws.{before-most}
 use Rattle.text_reading.specs.Marks.{before}
 use Rattle.text_reading.specs.PartLaws.{first-part, end-place, no-parts, no-end}
 use Rattle.replay_words.specs.Words.{decimal, numberIn}
 use Rattle.replay_words.specs.declared.Number.{Number}
-use borrow.Author.Needs.{needs}
 use Rattle.replay_words.proofs.number_at.Statement.{statement}
 use Rattle.replay_words.proofs.number_at.Tie as tie
 

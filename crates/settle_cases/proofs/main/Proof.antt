@@ -1,6 +1,5 @@
 -- `settle_cases::main` meets its contract.
-use Prim.Native.Nat.{_-_}
-use borrow.Author.Needs.{needs}
+use Rattle.laws.specs.Usual.{_-_, needs}
 use Rattle.settle_cases.proofs.main.Statement.{statement}
 use Rattle.settle_cases.proofs.main.Tie as tie
 

@@ -1,18 +1,11 @@
 -- `settle_input::entry_of` meets its contract.
-use mathlib.Core.Path.{_≡_, ap, ap₂, _∙_}
-use mathlib.Core.Bool.{cond, _&&_}
-use mathlib.Core.List.{List}
-use Prim.Native.Nat.{ℕ, _+_, _-_, _<_}
+use Rattle.laws.specs.Usual.{_≡_, ap, ap₂, _∙_, cond, _&&_, List, ℕ, _+_, _-_, _<_, arith, length, take, drop, ltb, needs}
 use native.Mathlib.Nat.{sub-zero}
-use native.Mathlib.Omega.{arith}
-use lib.Dec.{ltb}
-use lib.ListN.{length, take, drop}
 use Rattle.text.specs.Lines.{comma, lineFeed}
 use Rattle.laws.specs.Lists.{to-end}
 use Rattle.text_reading.specs.Marks.{before, behind}
 use Rattle.settle_input.specs.Input.{numberIn, noEntry, entryOf}
 use Rattle.settle_input.specs.Form.{no-comma, no-end, entry-made}
-use borrow.Author.Needs.{needs}
 use Rattle.settle_input.proofs.entry_of.Statement.{statement}
 use Rattle.settle_input.proofs.entry_of.Tie as tie
 

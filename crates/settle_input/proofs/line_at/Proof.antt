@@ -1,14 +1,10 @@
 -- `settle_input::line_at` meets its contract.
-use mathlib.Core.Path.{ap, ap₂, _∙_}
-use mathlib.Core.List.{List}
-use Prim.Native.Nat.{ℕ, _-_}
+use Rattle.laws.specs.Usual.{ap, ap₂, _∙_, List, ℕ, _-_, arith, length, take, drop, needs}
 use native.Mathlib.Nat.{sub-zero}
-use native.Mathlib.Omega.{arith}
-use lib.ListN.{length, take, drop, length-drop}
+use lib.ListN.{length-drop}
 use Rattle.laws.specs.Lists.{to-end}
 use Rattle.settle_input.specs.Input.{firstLine, entryOf}
 use Rattle.settle_input.specs.Form.{first-line-most, first-line-taken}
-use borrow.Author.Needs.{needs}
 use Rattle.settle_input.proofs.line_at.Statement.{statement}
 use Rattle.settle_input.proofs.line_at.Tie as tie
 

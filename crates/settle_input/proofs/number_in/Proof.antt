@@ -1,9 +1,7 @@
 -- `settle_input::number_in` meets its contract.
-use mathlib.Core.Path.{ap, sym, _∙_}
-use native.Mathlib.Omega.{arith}
+use Rattle.laws.specs.Usual.{sym, ap, _∙_, arith, needs}
 use Rattle.text_reading.specs.Told.{number-most}
 use Rattle.text_reading.specs.Values.{numberOr}
-use borrow.Author.Needs.{needs}
 use Rattle.settle_input.proofs.number_in.Statement.{statement}
 use Rattle.settle_input.proofs.number_in.Tie as tie
 

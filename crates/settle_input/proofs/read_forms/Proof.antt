@@ -1,14 +1,10 @@
 -- `settle_input::read_forms` meets its contract.
-use mathlib.Core.Path.{_≡_, refl, ap, sym, _∙_}
-use mathlib.Core.List.{List}
-use Prim.Native.Nat.{ℕ, _+_, _-_, _≤_}
+use Rattle.laws.specs.Usual.{_≡_, refl, sym, ap, _∙_, List, ℕ, _+_, _-_, _≤_, arith, length, drop, replicate, needs}
 use native.Mathlib.Numerals.{add-one}
-use native.Mathlib.Omega.{arith}
-use lib.ListN.{length, drop, replicate, length-drop, drop-of-length-le}
+use lib.ListN.{length-drop, drop-of-length-le}
 use Rattle.settle_input.specs.declared.Line.{Line}
 use Rattle.settle_input.specs.Input.{linesOf, formsFrom}
 use Rattle.settle_input.specs.Lines.{line-some, forms-bad, forms-more}
-use borrow.Author.Needs.{needs}
 use Rattle.settle_input.proofs.read_forms.Statement.{statement}
 use Rattle.settle_input.proofs.read_forms.Tie as tie
 

@@ -1,7 +1,6 @@
 -- `settle_input::read_ring` meets its contract.
-use mathlib.Core.Path.{_∙_, ap}
+use Rattle.laws.specs.Usual.{ap, _∙_, needs}
 use borrow.Author.Tests.{eq-eqb, ne-eqb}
-use borrow.Author.Needs.{needs}
 use Rattle.settle_input.specs.Input.{bad}
 use Rattle.settle_input.specs.Filled.{unlisted-line}
 use Rattle.settle_input.proofs.read_ring.Statement.{statement}

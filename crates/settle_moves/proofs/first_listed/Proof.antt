@@ -1,9 +1,5 @@
 -- `settle_moves::first_listed` meets its contract.
-use mathlib.Core.Path.{_≡_, _∙_, sym}
-use Prim.Native.Nat.{_-_}
-use native.Mathlib.Omega.{arith}
-use lib.ListN.{length, drop}
-use borrow.Author.Needs.{needs}
+use Rattle.laws.specs.Usual.{_≡_, sym, _∙_, _-_, arith, length, drop, needs}
 use Rattle.settle_moves.specs.Moves.{firstListed}
 use Rattle.settle_moves.specs.Loops.{listed-end, listed-skip, listed-first}
 use Rattle.settle_moves.proofs.first_listed.Statement.{statement}

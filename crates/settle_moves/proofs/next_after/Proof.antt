@@ -1,6 +1,5 @@
 -- `settle_moves::next_after` meets its contract.
-use mathlib.Core.Path.{_∙_}
-use borrow.Author.Needs.{needs}
+use Rattle.laws.specs.Usual.{_∙_, needs}
 use Rattle.settle_moves.specs.Found.{next-found}
 use Rattle.settle_moves.proofs.next_after.Statement.{statement}
 use Rattle.settle_moves.proofs.next_after.Tie as tie

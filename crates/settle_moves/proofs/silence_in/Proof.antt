@@ -1,14 +1,9 @@
 -- `settle_moves::silence_in` meets its contract.
-use mathlib.Core.Path.{_≡_, refl, ap, _∙_}
-use mathlib.Core.List.{List, _++_, map}
-use Prim.Native.Nat.{ℕ, _-_}
-use native.Mathlib.Omega.{arith}
-use lib.ListN.{length, take, drop, set}
+use Rattle.laws.specs.Usual.{_≡_, refl, ap, _∙_, List, _++_, map, ℕ, _-_, arith, length, take, drop, set, needs}
 use Rattle.settling.specs.Ring.{silence}
 use Rattle.settle_views.specs.Views.{stationsOf}
 use Rattle.settle_moves.specs.Moves.{viewAfter}
 use Rattle.settle_moves.specs.Loops.{mapped-more, mapped-all}
-use borrow.Author.Needs.{needs}
 use Rattle.settle_moves.proofs.silence_in.Statement.{statement}
 use Rattle.settle_moves.proofs.silence_in.Tie as tie
 

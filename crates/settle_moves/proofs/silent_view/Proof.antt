@@ -1,7 +1,6 @@
 -- `settle_moves::silent_view` meets its contract.
-use mathlib.Core.Path.{_∙_}
+use Rattle.laws.specs.Usual.{_∙_, needs}
 use borrow.Author.Tests.{eq-eqb, ne-eqb}
-use borrow.Author.Needs.{needs}
 use Rattle.settle_moves.proofs.silent_view.Statement.{statement}
 use Rattle.settle_moves.proofs.silent_view.Tie as tie
 

@@ -1,10 +1,7 @@
 -- `settle_output::put_step` meets its contract.
-use mathlib.Core.Path.{ap, ap₂, _∙_}
-use mathlib.Core.List.{[], _∷_}
-use Prim.Native.Nat.{ℕ}
+use Rattle.laws.specs.Usual.{ap, ap₂, _∙_, [], _∷_, ℕ, needs}
 use Rattle.text.specs.Lines.{lineOf}
 use Rattle.settle_output.specs.Output.{writtenTo, lengthIn}
-use borrow.Author.Needs.{needs}
 use Rattle.settle_output.proofs.put_step.Statement.{statement}
 use Rattle.settle_output.proofs.put_step.Tie as tie
 

@@ -1,11 +1,6 @@
 -- `settle_print::fill` meets its contract.
-use mathlib.Core.Path.{_≡_, refl, ap, ap₂, sym, subst, _∙_}
-use mathlib.Core.Bool.{Bool, true, false, not, _&&_}
-use mathlib.Core.List.{List}
-use Prim.Native.Nat.{ℕ, _+_, _-_, _≤_}
-use native.Mathlib.Omega.{arith}
-use lib.Dec.{leb}
-use lib.ListN.{length, take, drop, length-take, length-drop}
+use Rattle.laws.specs.Usual.{_≡_, refl, sym, ap, ap₂, subst, _∙_, Bool, true, false, not, _&&_, List, ℕ, _+_, _-_, _≤_, arith, length, take, drop, leb, needs}
+use lib.ListN.{length-take, length-drop}
 use borrow.Rule.Slice.PartMut.{putMid}
 use Rattle.copying.specs.Laws.{paste-nothing, paste-append, paste-part, length-pasted}
 use Rattle.copying.specs.Pasted.{pasted}
@@ -16,7 +11,6 @@ use Rattle.settle_print.specs.Lines.{lines-next, line-fits}
 use Rattle.settle_print.specs.Filling.{Filling, goesOn, not-over, has-room, written, filling-start, filling-next, filling-over}
 use Rattle.settle_print.specs.declared.Filled.{Filled}
 use Rattle.settle_rest.specs.declared.Printing.{Printing}
-use borrow.Author.Needs.{needs}
 use Rattle.settle_print.proofs.fill.Statement.{statement}
 use Rattle.settle_print.proofs.fill.Tie as tie
 

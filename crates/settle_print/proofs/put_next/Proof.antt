@@ -1,16 +1,12 @@
 -- `settle_print::put_next` meets its contract.
-use mathlib.Core.Path.{_≡_, ap, sym, _∙_}
-use mathlib.Core.List.{List}
-use Prim.Native.Nat.{ℕ}
+use Rattle.laws.specs.Usual.{_≡_, sym, ap, _∙_, List, ℕ, length, needs}
 use borrow.Author.Tests.{le-ltb}
-use lib.ListN.{length}
 use Rattle.copying.specs.Laws.{paste-nothing}
 use Rattle.copying.specs.Pasted.{pasted}
 use Rattle.settle_output.specs.Output.{room}
 use Rattle.settle_print.specs.Parts.{staged, behind, lineBy, nextBy, nextLine, nextOf}
 use Rattle.settle_rest.specs.declared.Printing.{Printing}
 use Rattle.settle_rest.specs.declared.Stage.{Stage}
-use borrow.Author.Needs.{needs}
 use Rattle.settle_print.proofs.put_next.Statement.{statement}
 use Rattle.settle_print.proofs.put_next.Tie as tie
 

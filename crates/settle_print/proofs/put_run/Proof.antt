@@ -1,16 +1,12 @@
 -- `settle_print::put_run` meets its contract.
-use mathlib.Core.Path.{_≡_, ap, sym, _∙_}
-use Prim.Native.Nat.{ℕ, suc, _-_}
-use native.Mathlib.Omega.{arith}
+use Rattle.laws.specs.Usual.{_≡_, sym, ap, _∙_, ℕ, suc, _-_, arith, length, needs}
 use borrow.Author.Tests.{le-ltb}
-use lib.ListN.{length}
 use Rattle.copying.specs.Pasted.{pasted}
 use Rattle.settle_output.specs.Output.{room, stepLine}
 use Rattle.settle_run.specs.declared.Stepped.{Stepped}
 use Rattle.settle_print.specs.Parts.{behind, runLine, runNext}
 use Rattle.settle_rest.specs.declared.Printing.{Printing}
 use Rattle.settle_rest.specs.declared.Stage.the-variants.{Run}
-use borrow.Author.Needs.{needs}
 use Rattle.settle_print.proofs.put_run.Statement.{statement}
 use Rattle.settle_print.proofs.put_run.Tie as tie
 

@@ -1,10 +1,8 @@
 -- `settle_rest::begin` meets its contract.
-use mathlib.Core.Path.{ap, _∙_}
-use Prim.Native.Nat.{_+_}
+use Rattle.laws.specs.Usual.{ap, _∙_, _+_, needs}
 use Rattle.settle_input.specs.declared.Reading.{Reading}
 use Rattle.settle_run.specs.Run.{settledOf}
 use Rattle.settle_rest.specs.Rest.{stageOf, printingOf}
-use borrow.Author.Needs.{needs}
 use Rattle.settle_rest.proofs.begin.Statement.{statement}
 use Rattle.settle_rest.proofs.begin.Tie as tie
 

@@ -1,10 +1,7 @@
 -- `settle_rest::ring_after` meets its contract.
-use mathlib.Core.Path.{_≡_, refl, ap, _∙_}
-use Prim.Native.Nat.{ℕ, suc, _-_}
-use native.Mathlib.Omega.{arith}
+use Rattle.laws.specs.Usual.{_≡_, refl, ap, _∙_, ℕ, suc, _-_, arith, needs}
 use Rattle.settle_run.specs.declared.Stepped.{Stepped}
 use Rattle.settle_rest.specs.Rest.{ringAfter}
-use borrow.Author.Needs.{needs}
 use Rattle.settle_rest.proofs.ring_after.Statement.{statement}
 use Rattle.settle_rest.proofs.ring_after.Tie as tie
 

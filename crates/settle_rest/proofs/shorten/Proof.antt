@@ -1,9 +1,6 @@
 -- `settle_rest::shorten` meets its contract.
-use mathlib.Core.Path.{_≡_, sym}
-use Prim.Native.Nat.{min}
-use native.Mathlib.Omega.{arith}
+use Rattle.laws.specs.Usual.{_≡_, sym, min, arith, needs}
 use Rattle.settle_rest.specs.Shown.{all-shown}
-use borrow.Author.Needs.{needs}
 use Rattle.settle_rest.proofs.shorten.Statement.{statement}
 use Rattle.settle_rest.proofs.shorten.Tie as tie
 

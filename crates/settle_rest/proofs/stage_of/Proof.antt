@@ -1,7 +1,6 @@
 -- `settle_rest::stage_of` meets its contract.
-use mathlib.Core.Path.{sym, ap}
+use Rattle.laws.specs.Usual.{sym, ap, needs}
 use Rattle.settle_rest.specs.Rest.{stageOf}
-use borrow.Author.Needs.{needs}
 use Rattle.settle_rest.proofs.stage_of.Statement.{statement}
 use Rattle.settle_rest.proofs.stage_of.Tie as tie
 

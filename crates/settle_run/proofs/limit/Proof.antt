@@ -1,9 +1,6 @@
 -- `settle_run::limit` meets its contract.
-use mathlib.Core.Path.{sym, ap, _∙_}
-use Prim.Native.Nat.{ℕ, _*_}
-use native.Mathlib.Omega.{arith}
+use Rattle.laws.specs.Usual.{sym, ap, _∙_, ℕ, _*_, arith, needs}
 use Rattle.settle_run.proofs.Counting.{square-most}
-use borrow.Author.Needs.{needs}
 use Rattle.settle_run.proofs.limit.Statement.{statement}
 use Rattle.settle_run.proofs.limit.Tie as tie
 

@@ -1,16 +1,11 @@
 -- `settle_run::settle` meets its contract.
-use mathlib.Core.Bool.{false}
-use mathlib.Core.Path.{_≡_, sym, ap, _∙_, subst}
-use Prim.Native.Nat.{_+_, _-_, _≤_}
-use native.Mathlib.Omega.{arith}
+use Rattle.laws.specs.Usual.{_≡_, sym, ap, subst, _∙_, false, _+_, _-_, _≤_, arith, length, needs}
 use borrow.Author.Tests.{not-true, not-false}
-use lib.ListN.{length}
 use Rattle.settle_views.specs.Views.{stationsOf}
 use Rattle.settle_run.specs.declared.Stepped.{Stepped}
 use Rattle.settle_run.specs.Run.{over, settledOf, Bounded}
 use Rattle.settle_run.specs.Whole.{settled-bounded}
 use Rattle.settle_run.proofs.Counting.{Going, going-start, some-left, going-pass, going-silence, going-over}
-use borrow.Author.Needs.{needs}
 use Rattle.settle_run.proofs.settle.Statement.{statement}
 use Rattle.settle_run.proofs.settle.Tie as tie
 

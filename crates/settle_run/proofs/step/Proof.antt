@@ -1,7 +1,6 @@
 -- `settle_run::step` meets its contract.
-use mathlib.Core.Path.{sym, _∙_}
+use Rattle.laws.specs.Usual.{sym, _∙_, needs}
 use borrow.Author.Tests.{eq-eqb, ne-eqb}
-use borrow.Author.Needs.{needs}
 use Rattle.settle_run.proofs.step.Statement.{statement}
 use Rattle.settle_run.proofs.step.Tie as tie
 

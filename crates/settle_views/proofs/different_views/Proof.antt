@@ -1,14 +1,9 @@
 -- `settle_views::different_views` meets its contract.
-use mathlib.Core.Path.{_≡_, ap, _∙_}
-use mathlib.Core.List.{map}
-use Prim.Native.Nat.{ℕ, _-_}
-use native.Mathlib.Omega.{arith}
-use lib.ListN.{getD, drop}
+use Rattle.laws.specs.Usual.{_≡_, ap, _∙_, map, ℕ, _-_, arith, getD, drop, needs}
 use mir.Val.{Fits}
 use mir.Syntax.{w8}
 use Rattle.settle_views.specs.Views.{stationsFrom, different}
 use Rattle.settle_views.specs.Different.{Counted, counted-none, counted-same, counted-more}
-use borrow.Author.Needs.{needs}
 use Rattle.settle_views.proofs.different_views.Statement.{statement}
 use Rattle.settle_views.proofs.different_views.Tie as tie
 

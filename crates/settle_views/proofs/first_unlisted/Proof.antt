@@ -1,15 +1,11 @@
 -- `settle_views::first_unlisted` meets its contract.
-use mathlib.Core.Path.{_≡_, ap, _∙_, sym}
-use Prim.Native.Nat.{_+_, _-_, _≤_}
+use Rattle.laws.specs.Usual.{_≡_, sym, ap, _∙_, _+_, _-_, _≤_, arith, length, getD, drop, needs}
 use native.Mathlib.Numerals.{add-one}
-use native.Mathlib.Omega.{arith}
 use borrow.Author.Tests.{eq-eqb, ne-eqb}
-use lib.ListN.{length, getD, drop}
 use mir.Val.{Fits}
 use mir.Syntax.{w8}
 use Rattle.settle_views.specs.Views.{stationsFrom, firstUnlisted}
 use Rattle.settle_views.specs.Loops.{stations-end, stations-skip, stations-first}
-use borrow.Author.Needs.{needs}
 use Rattle.settle_views.proofs.first_unlisted.Statement.{statement}
 use Rattle.settle_views.proofs.first_unlisted.Tie as tie
 

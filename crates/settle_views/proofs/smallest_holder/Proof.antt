@@ -1,12 +1,7 @@
 -- `settle_views::smallest_holder` meets its contract.
-use mathlib.Core.Path.{_≡_, refl, ap, _∙_, sym}
-use mathlib.Core.List.{List}
-use Prim.Native.Nat.{ℕ, _-_, _≤_}
-use native.Mathlib.Omega.{arith}
-use lib.ListN.{length, getD, drop}
+use Rattle.laws.specs.Usual.{_≡_, refl, sym, ap, _∙_, List, ℕ, _-_, _≤_, arith, length, getD, drop, needs}
 use Rattle.settle_views.specs.Views.{stationsFrom, smallestHolder}
 use Rattle.settle_views.specs.Loops.{stations-end, holder-skip, holder-first}
-use borrow.Author.Needs.{needs}
 use Rattle.settle_views.proofs.smallest_holder.Statement.{statement}
 use Rattle.settle_views.proofs.smallest_holder.Tie as tie
 

@@ -1,11 +1,7 @@
 -- `settle_views::stations` meets its contract.
-use mathlib.Core.Path.{_≡_, ap}
-use Prim.Native.Nat.{_+_, _-_, _≤_}
-use native.Mathlib.Omega.{arith}
-use lib.ListN.{length, drop}
+use Rattle.laws.specs.Usual.{_≡_, ap, _+_, _-_, _≤_, arith, length, drop, needs}
 use Rattle.settle_views.specs.Views.{stationsFrom}
 use Rattle.settle_views.specs.Loops.{stations-end, stations-skip, stations-first}
-use borrow.Author.Needs.{needs}
 use Rattle.settle_views.proofs.stations.Statement.{statement}
 use Rattle.settle_views.proofs.stations.Tie as tie
 

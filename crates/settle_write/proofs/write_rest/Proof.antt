@@ -1,10 +1,6 @@
 -- `settle_write::write_rest` meets its contract.
-use mathlib.Core.Path.{_≡_, ap, sym, _∙_}
-use mathlib.Core.Bool.{false}
-use native.Mathlib.Omega.{arith}
-use borrow.Author.Needs.{needs}
+use Rattle.laws.specs.Usual.{_≡_, sym, ap, _∙_, false, arith, length, needs}
 use borrow.Author.Tests.{not-true}
-use lib.ListN.{length}
 use Rattle.settle_rest.specs.Rest.{isOver}
 use Rattle.settle_print.specs.Parts.{linesLeft}
 use Rattle.settle_print.specs.Filling.{filled, fill-less}

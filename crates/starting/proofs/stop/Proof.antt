@@ -1,6 +1,5 @@
 -- `starting::stop` meets its contract.
-use mathlib.Core.Path.{sym, _∙_}
-use borrow.Author.Needs.{needs}
+use Rattle.laws.specs.Usual.{sym, _∙_, needs}
 use Rattle.starting.proofs.stop.Statement.{statement}
 use Rattle.starting.proofs.stop.Tie as tie
 

@@ -1,7 +1,5 @@
 -- `state_parts::taken_if` meets its contract.
-use mathlib.Core.Path.{_∙_}
-use lib.ListN.{take}
-use borrow.Author.Needs.{needs}
+use Rattle.laws.specs.Usual.{_∙_, take, needs}
 use Rattle.state_parts.proofs.taken_if.Statement.{statement}
 use Rattle.state_parts.proofs.taken_if.Tie as tie
 

@@ -1,7 +1,6 @@
 -- `state_parts::without` meets its contract.
-use mathlib.Core.Path.{_∙_}
+use Rattle.laws.specs.Usual.{_∙_, needs}
 use borrow.Author.Tests.{eq-eqb, ne-eqb}
-use borrow.Author.Needs.{needs}
 use Rattle.state_parts.proofs.without.Statement.{statement}
 use Rattle.state_parts.proofs.without.Tie as tie
 

@@ -1,11 +1,6 @@
 -- Every frame that is asked for reads back to the fields that are meant. Assumes nothing.
-use mathlib.Core.Path.{_≡_, ap, sym, _∙_}
-use mathlib.Core.Bool.{Bool, true, false, cond, _&&_}
-use mathlib.Core.List.{List}
-use Prim.Native.Nat.{ℕ, _*_, _≤_, _<_}
-use native.Mathlib.Omega.{arith}
-use lib.Dec.{eqb, leb}
-use lib.ListN.{length, take, drop, length-append, length-take, length-drop}
+use Rattle.laws.specs.Usual.{_≡_, sym, ap, _∙_, Bool, true, false, cond, _&&_, List, ℕ, _*_, _<_, _≤_, arith, length, take, drop, eqb, leb}
+use lib.ListN.{length-append, length-take, length-drop}
 use lib.Seq.{take-at}
 use borrow.Author.Tests.{le-leb, eqb-true, leb-true}
 use Rattle.area.specs.Areas.{inRange, memoryOctets, spanOf}

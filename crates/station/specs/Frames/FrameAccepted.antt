@@ -1,11 +1,6 @@
 -- Every frame asked for is accepted by whoever knows its sender and its destination. Assumes nothing.
-use mathlib.Core.Path.{_≡_, refl, ap, _∙_}
-use mathlib.Core.Bool.{true, false, not, _&&_, _||_, and-false, and-true}
-use mathlib.Core.List.{List}
-use Prim.Native.Nat.{ℕ}
-use native.Mathlib.Omega.{arith}
-use lib.Dec.{eqb}
-use lib.ListN.{length, take}
+use Rattle.laws.specs.Usual.{_≡_, refl, ap, _∙_, true, false, not, _&&_, _||_, List, ℕ, arith, length, take, eqb}
+use mathlib.Core.Bool.{and-false, and-true}
 use borrow.Author.Tests.{ne-eqb, lt-ltb}
 use Rattle.block.specs.Blocks.{blocksOf}
 use Rattle.frame.specs.Codes.{isToken, isCyclic}
@@ -16,13 +11,13 @@ use Rattle.frame_round_trip.specs.Accepted.{Accepted, accepted as passed}
 use Rattle.station.specs.Outcomes.AskCases.{triggers, requests, begins, passes, AskCases, refuses, sends, ask-cases}
 use Rattle.station.specs.Frames.Asked.{CanSend, asked-back}
 use Rattle.station.specs.Rules.Asking.{isPlaced, dueIn, askOf, dueFields, Asking}
-use Rattle.station.specs.Rules.Calls.{hear, taken, verdict, heardVerdict}
+use Rattle.station.specs.Rules.Calls.{hear, unrefused, verdict, heardVerdict}
 use Rattle.station.specs.Rules.Data.{gathered}
 use Rattle.station.specs.Rules.Hearing.{Hearing, isTaken, isStranger, knows, lentRight, participantHeard, accepted, hearOf}
 use Rattle.station.specs.States.Sound.{sound}
 use Rattle.station.specs.States.ListKept.{next-station}
 use Rattle.station.specs.States.Reachable.{Reachable}
-use Rattle.station.specs.RefusedLeft.{accepted-taken}
+use Rattle.station.specs.RefusedLeft.{accepted-unrefused}
 use Rattle.station.specs.Rules.State.{isParticipating, isOff, holds}
 use Rattle.station.specs.declared.Asked.the-variants.{Octets}
 use Rattle.station.specs.Types.{Fields, Code, Frame, Participating, Station}
@@ -45,8 +40,8 @@ pub record Listens (listener : Station) (frame : Fields) : Type 0 where
 module _ (listener : Station) (octets memory assembly : List ℕ) (frame : Fields) (read : readOf octets ≡ Frame frame)
     (lent : lentRight memory assembly ≡ true) (listens : Listens listener frame) where
   -- neither 6 nor 9
-  not-taken : isTaken listener frame ≡ false
-  not-taken =
+  one-verdict : isTaken listener frame ≡ false
+  one-verdict =
       let different : eqb (frame .source) (listener .own .number) ≡ false = ne-eqb _ _ (listens .other) in
       rw (different, and-false (not (isOff (listener .phase))))
 
@@ -66,16 +61,16 @@ module _ (listener : Station) (octets memory assembly : List ℕ) (frame : Field
   pub heard-accepted : hearOf listener octets memory assembly ≡ accepted listener frame octets memory assembly
   heard-accepted =
       let a = passed octets frame read in
-      rw (lent, header-read a, not-taken, body-read a, no-stranger)
+      rw (lent, header-read a, one-verdict, body-read a, no-stranger)
 
   -- a cyclic frame restarts the watch, moves the view and is gathered
   pub accepts : isCyclic (frame .code) ≡ true →
       hearOf listener octets memory assembly ≡ participantHeard listener frame (gathered listener frame (dataOf octets frame) assembly memory)
   accepts cyclic = heard-accepted ∙ rw (listens .participates, cyclic)
 
-  pub not-refused : verdict listener (hear octets memory assembly) ≡ taken
+  pub not-refused : verdict listener (hear octets memory assembly) ≡ unrefused
   not-refused =
-      ap (λ (result : Hearing). heardVerdict (result .answer)) heard-accepted ∙ accepted-taken listener frame octets memory assembly
+      ap (λ (result : Hearing). heardVerdict (result .answer)) heard-accepted ∙ accepted-unrefused listener frame octets memory assembly
 
 -- a station that calls can leave, and that is not off, can send
 pub can-send : (station : Station) → Reachable station → isOff (station .phase) ≡ false → CanSend station
@@ -121,6 +116,6 @@ pub frame-accepted : (station : Station) → Reachable station → (memory turn 
     askOf station memory turn output .answer ≡ Octets count →
     (listener : Station) → Listens listener (dueFields (station .phase) station) →
     (common assembly : List ℕ) → lentRight common assembly ≡ true →
-    verdict listener (hear (take count (askOf station memory turn output .output)) common assembly) ≡ taken
+    verdict listener (hear (take count (askOf station memory turn output .output)) common assembly) ≡ unrefused
 frame-accepted station reached memory turn output count e listener listens common assembly lent =
     not-refused listener _ common assembly _ (frame-asked station reached memory turn output count e) lent listens

@@ -1,11 +1,5 @@
 -- What the assembly buffer holds while a turn is gathered: the data of blocks 1, 2, .. of one source, in order. Assumes nothing.
-use mathlib.Core.Path.{_≡_, sym, ap, subst, _∙_}
-use mathlib.Core.List.{List, [], _∷_, _++_}
-use mathlib.Core.Bool.{Bool, true, false, cond, _&&_, _||_, false≢true}
-use Prim.Native.Nat.{ℕ, _+_, _*_}
-use native.Mathlib.Omega.{arith}
-use lib.Dec.{eqb}
-use lib.ListN.{length, take}
+use Rattle.laws.specs.Usual.{_≡_, sym, ap, subst, _∙_, Bool, true, false, cond, _&&_, _||_, false≢true, List, [], _∷_, _++_, ℕ, _+_, _*_, arith, length, take, eqb}
 use borrow.Author.Tests.{eqb-true}
 use Rattle.block.specs.Blocks.{startOf}
 use Rattle.frame.specs.Codes.{isCyclic}

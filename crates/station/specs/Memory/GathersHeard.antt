@@ -1,11 +1,5 @@
 -- Hearing keeps what the assembly buffer holds of a turn; so the turn that is written is blocks 1 to the last of one source. Assumes nothing.
-use mathlib.Core.Path.{_≡_, refl, sym, subst, _∙_}
-use mathlib.Core.List.{List, _∷_}
-use mathlib.Core.Bool.{true, false}
-use Prim.Native.Nat.{ℕ, _+_, _*_, _≤_, _<_}
-use native.Mathlib.Omega.{arith}
-use lib.Dec.{eqb}
-use lib.ListN.{length}
+use Rattle.laws.specs.Usual.{_≡_, refl, sym, subst, _∙_, true, false, List, _∷_, ℕ, _+_, _*_, _<_, _≤_, arith, length, eqb}
 use borrow.Author.Tests.{eqb-false}
 use Rattle.block.specs.Blocks.{octetsOf, blocksOf, startOf, lengthOf}
 use Rattle.block.specs.Cut as cut

@@ -1,10 +1,5 @@
 -- "Our own areas are never written by a frame": what hearing a frame does to the common memory. Assumes nothing.
-use mathlib.Core.Path.{_≡_, refl, sym, ap, _∙_}
-use mathlib.Core.Bool.{Bool, true, false, cond, not, false≢true}
-use mathlib.Core.List.{List}
-use Prim.Native.Nat.{ℕ}
-use lib.Dec.{eqb}
-use lib.ListN.{length}
+use Rattle.laws.specs.Usual.{_≡_, refl, sym, ap, _∙_, Bool, true, false, cond, not, false≢true, List, ℕ, length, eqb}
 use Rattle.block.specs.Blocks as blocks
 use Rattle.copying.specs.Pasted.{pasted}
 use Rattle.frame.specs.Codes.{isToken, isCyclic}

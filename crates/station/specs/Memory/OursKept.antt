@@ -1,12 +1,6 @@
 -- "Our own areas are never written by a frame": in every state that calls can leave, hearing any octets leaves every octet of our own areas
 -- in the common memory as it was. Assumes nothing.
-use mathlib.Core.Path.{_≡_, refl, sym, _∙_}
-use mathlib.Core.Bool.{true, false, false≢true}
-use mathlib.Core.List.{List}
-use Prim.Native.Nat.{ℕ, _+_, _≤_, max}
-use native.Mathlib.Omega.{arith}
-use lib.Dec.{eqb}
-use lib.ListN.{length, getD}
+use Rattle.laws.specs.Usual.{_≡_, refl, sym, _∙_, true, false, false≢true, List, ℕ, _+_, _≤_, max, arith, length, getD, eqb}
 use borrow.Author.Tests.{leb-true, eqb-true}
 use Rattle.laws.specs.Tests.{first, neither-first, neither-second}
 use Rattle.area.specs.Areas.{inArea, inRange, spanOf, memoryOctets}

@@ -1,11 +1,8 @@
 -- Half a turn is never written: the turn that is written is what the assembly buffer held before the last block, and that block's octets
 -- right behind it, just as many as the source's listed areas have. Assumes nothing.
-use mathlib.Core.Path.{_≡_, sym, ap, _∙_}
-use mathlib.Core.List.{List, _++_, append-assoc}
-use mathlib.Core.Bool.{true}
-use Prim.Native.Nat.{ℕ, _+_, _-_, _≤_}
-use native.Mathlib.Omega.{arith}
-use lib.ListN.{length, take, drop, length-append, length-take, length-drop}
+use Rattle.laws.specs.Usual.{_≡_, sym, ap, _∙_, true, List, _++_, ℕ, _+_, _-_, _≤_, arith, length, take, drop}
+use mathlib.Core.List.{append-assoc}
+use lib.ListN.{length-append, length-take, length-drop}
 use lib.Seq.{take-at}
 use borrow.Author.Tests.{eqb-true}
 use Rattle.area.specs.Areas.{memoryOctets}

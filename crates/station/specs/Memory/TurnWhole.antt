@@ -1,12 +1,6 @@
 -- "Half a turn is never seen": where every frame is heard with the assembly buffer that the one before left, each turn that is written is the
 -- data of blocks 1 to the last of its source, in order. Assumes nothing.
-use mathlib.Core.Path.{_≡_, refl, sym, subst}
-use mathlib.Core.List.{List, [], _∷_}
-use mathlib.Core.Bool.{Bool, true, false, cond, _&&_, false≢true}
-use Prim.Native.Nat.{ℕ, _+_, _≤_, _<_}
-use native.Mathlib.Omega.{arith}
-use lib.Dec.{eqb}
-use lib.ListN.{getD, take}
+use Rattle.laws.specs.Usual.{_≡_, refl, sym, subst, Bool, true, false, cond, _&&_, false≢true, List, [], _∷_, ℕ, _+_, _<_, _≤_, arith, getD, take, eqb}
 use borrow.Author.Tests.{ne-eqb}
 use Rattle.block.specs.Blocks.{octetsOf}
 use Rattle.members.specs.Members.{entryOf, isListed, strikes}

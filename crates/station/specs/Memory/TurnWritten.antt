@@ -1,12 +1,7 @@
 -- The common memory octet by octet, where hearing a frame is answered with "written": the source's listed areas hold one whole turn, as the
 -- call leaves it in the assembly buffer, and every other octet is the same. Assumes nothing.
-use mathlib.Core.Path.{_≡_, ap, _∙_}
-use mathlib.Core.List.{List}
-use mathlib.Core.Bool.{true}
-use Prim.Native.Nat.{ℕ, _+_, _-_, _*_, _≤_, _<_, min}
-use native.Mathlib.Omega.{arith}
-use lib.Dec.{eqb}
-use lib.ListN.{length, getD, length-append, length-take, length-drop}
+use Rattle.laws.specs.Usual.{_≡_, ap, _∙_, true, List, ℕ, _+_, _-_, _*_, _<_, _≤_, min, arith, length, getD, eqb}
+use lib.ListN.{length-append, length-take, length-drop}
 use borrow.Author.Tests.{eqb-true}
 use Rattle.laws.specs.Tests.{second}
 use Rattle.area.specs.Areas.{spanOf, memoryOctets}

@@ -1,9 +1,5 @@
 -- The outcomes of asking for a frame, each with what led there and what is left: whatever is proved of asking goes by these. Assumes nothing.
-use mathlib.Core.Path.{_≡_, refl}
-use mathlib.Core.Bool.{Bool, true, false, cond, not, false≢true}
-use mathlib.Core.List.{List}
-use Prim.Native.Nat.{ℕ}
-use lib.ListN.{drop}
+use Rattle.laws.specs.Usual.{_≡_, refl, Bool, true, false, cond, not, false≢true, List, ℕ, drop}
 use Rattle.block.specs.Blocks.{startOf}
 use Rattle.frame.specs.declared.Refusal.the-variants as refusals
 use Rattle.laws.specs.Tests.{first, second}

@@ -1,10 +1,5 @@
 -- The outcomes of hearing a frame, each with what led there and what is left: whatever is proved of hearing goes by these. Assumes nothing.
-use mathlib.Core.Path.{_≡_, refl, sym, ap, _∙_}
-use mathlib.Core.Bool.{Bool, true, false, cond, not, _&&_, _||_}
-use mathlib.Core.List.{List}
-use Prim.Native.Nat.{ℕ}
-use lib.Dec.{eqb}
-use lib.ListN.{length}
+use Rattle.laws.specs.Usual.{_≡_, refl, sym, ap, _∙_, Bool, true, false, cond, not, _&&_, _||_, List, ℕ, length, eqb}
 use borrow.Author.Tests.{not-false}
 use Rattle.block.specs.Blocks.{startOf}
 use Rattle.copying.specs.Pasted.{pasted}

@@ -1,7 +1,5 @@
 -- The outcomes of a start and of a stop: whatever is proved of these calls goes by these. Assumes nothing.
-use mathlib.Core.Path.{_≡_, refl}
-use mathlib.Core.Bool.{Bool, true, false, not, _&&_}
-use lib.Dec.{ltb}
+use Rattle.laws.specs.Usual.{_≡_, refl, Bool, true, false, not, _&&_, ltb}
 use Rattle.area.specs.Areas.{inRange}
 use Rattle.frame.specs.declared.Refusal.the-variants as refusals
 use Rattle.laws.specs.Tests.{first, second}

@@ -1,9 +1,5 @@
 -- The outcomes of a tick, each with what led there and what is left: whatever is proved of a tick goes by these. Assumes nothing.
-use mathlib.Core.Path.{_≡_, refl}
-use mathlib.Core.Bool.{Bool, true, false, cond}
-use mathlib.Core.List.{List, [], _∷_}
-use Prim.Native.Nat.{ℕ}
-use lib.Dec.{eqb, leb}
+use Rattle.laws.specs.Usual.{_≡_, refl, Bool, true, false, cond, List, [], _∷_, ℕ, eqb, leb}
 use Rattle.members.specs.Members.{numbersOf, smallest}
 use Rattle.panel.specs.Panel.{ticked}
 use Rattle.station.specs.Rules.Starting.{startedUp}

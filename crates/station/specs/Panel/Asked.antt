@@ -1,15 +1,10 @@
 -- What asking for a frame does to the panel. Assumes nothing.
-use mathlib.Core.Path.{_≡_, refl, sym, _∙_}
-use mathlib.Core.Bool.{Bool, true, false, cond, not, _&&_, _||_, false≢true}
-use mathlib.Core.List.{List}
-use Prim.Native.Nat.{ℕ, _+_, _<_}
-use native.Mathlib.Omega.{arith}
+use Rattle.laws.specs.Usual.{_≡_, refl, sym, _∙_, Bool, true, false, cond, not, _&&_, _||_, false≢true, List, ℕ, _+_, _<_, arith, eqb, leb}
 use borrow.Author.Tests.{leb-true, leb-false, eq-eqb, eqb-true}
-use lib.Dec.{eqb, leb}
 use Rattle.block.specs.Blocks.{blocksOf}
 use Rattle.frame.specs.Codes.{isToken}
 use Rattle.frame.specs.declared.Code.the-variants.{Token, Cyclic}
-use Rattle.panel.specs.Panel.{taken}
+use Rattle.panel.specs.Panel.{afterTaking}
 use Rattle.station.specs.Outcomes.AskCases.{triggers, requests, begins, passes, AskCases, refuses, sends}
 use Rattle.station.specs.Panel.History.{passedBy, participates, writesToUs}
 use Rattle.station.specs.Rules.State.{holds}
@@ -45,8 +40,8 @@ block-moves station inside held = enter refl (λ room. record {
 })
   where
     by : (last code to after before : Bool) → code ≡ last → before ≡ true →
-        cond (last && to) (taken (station .panel)) (station .panel) ≡
-        cond (((after && not before) || (code && to)) || false) (taken (station .panel)) (station .panel)
+        cond (last && to) (afterTaking (station .panel)) (station .panel) ≡
+        cond (((after && not before) || (code && to)) || false) (afterTaking (station .panel)) (station .panel)
     by last code to after false c d = absurd (false≢true d)
     by true false to after true c d = absurd (false≢true c)
     by false true to after true c d = absurd (false≢true (sym c))

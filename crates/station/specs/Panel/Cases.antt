@@ -1,8 +1,5 @@
 -- The panel worked out for single lists of calls (paper 01, "The panel": "63 shows `6.3`"). Assumes nothing.
-use mathlib.Core.Path.{_≡_, refl, _∙_}
-use mathlib.Core.List.{List, [], _∷_, _++_}
-use Prim.Native.Nat.{ℕ}
-use lib.ListN.{replicate}
+use Rattle.laws.specs.Usual.{_≡_, refl, _∙_, List, [], _∷_, _++_, ℕ, replicate}
 use Rattle.members.specs.Members.{noMembers}
 use Rattle.panel.specs.declared.Figure.the-variants.{Nothing, Gap}
 use Rattle.frame_reading.specs.Reading.{fieldsOf}

@@ -1,12 +1,7 @@
 -- The panel's counters, which stop at 65,536 ticks and at 2 takings, against the plain times of the takings. Assumes nothing.
-use mathlib.Core.Path.{_≡_, refl, ap}
-use mathlib.Core.Bool.{Bool, true, false, cond}
-use mathlib.Core.List.{List, [], _∷_}
-use Prim.Native.Nat.{ℕ, suc, _-_, _≤_, min}
-use native.Mathlib.Omega.{arith}
+use Rattle.laws.specs.Usual.{_≡_, refl, ap, Bool, true, false, cond, List, [], _∷_, ℕ, suc, _-_, _≤_, min, arith, ltb}
 use borrow.Author.Tests.{lt-ltb, ltb-true, ltb-false}
-use lib.Dec.{ltb}
-use Rattle.panel.specs.Panel.{ticked, taken, figureOf}
+use Rattle.panel.specs.Panel.{ticked, afterTaking, figureOf}
 use Rattle.panel.specs.declared.Panel.{Panel}
 use Rattle.station.specs.Panel.History.{Step, isTick, isTaking, begins, clock, noted, takings, gapShown, lastGap}
 
@@ -24,7 +19,7 @@ Counts now (last ∷ previous ∷ rest) panel = (panel .takings ≡ 2) × Runnin
 running-tick : (now last : ℕ) (panel : Panel) → Running now last panel → Running (suc now) last (ticked panel)
 running-tick now last panel r = record { past = omega arith; running = omega arith }
 
-running-taken : (now : ℕ) (panel : Panel) → Running now now (taken panel)
+running-taken : (now : ℕ) (panel : Panel) → Running now now (afterTaking panel)
 running-taken now panel = record { past = omega arith; running = omega arith }
 
 -- a tick more
@@ -34,7 +29,7 @@ counts-tick now (last ∷ []) panel c = (c .0, running-tick now last panel (c .1
 counts-tick now (last ∷ previous ∷ rest) panel c = (c .0, running-tick now last panel (c .1), c .2)
 
 -- a taking more
-pub counts-taken : (now : ℕ) (times : List ℕ) (panel : Panel) → Counts now times panel → Counts now (now ∷ times) (taken panel)
+pub counts-taken : (now : ℕ) (times : List ℕ) (panel : Panel) → Counts now times panel → Counts now (now ∷ times) (afterTaking panel)
 counts-taken now [] panel c = (rw c, running-taken now panel)
 counts-taken now (last ∷ []) panel c = (rw (c .0), running-taken now panel, c .1 .running)
 counts-taken now (last ∷ previous ∷ rest) panel c = (rw (c .0), running-taken now panel, c .1 .running)

@@ -1,8 +1,5 @@
 -- What hearing a frame does to the panel. Assumes nothing.
-use mathlib.Core.Path.{refl}
-use mathlib.Core.Bool.{false}
-use mathlib.Core.List.{List}
-use Prim.Native.Nat.{ℕ}
+use Rattle.laws.specs.Usual.{refl, false, List, ℕ}
 use Rattle.station.specs.Outcomes.HearCases.{off, begins, joins, passes, reads, lists, ignores, HearCases, refuses, turnsOff, gathers, heeds}
 use Rattle.station.specs.Rules.Hearing.{Hearing}
 use Rattle.station.specs.declared.Station.{Station}

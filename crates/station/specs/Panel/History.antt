@@ -1,9 +1,6 @@
 -- Paper 01, "The panel", told from the list of calls since off and the views before and after each. Nothing here looks at the panel that the
 -- state carries.
-use Prim.Native.Nat.{ℕ, suc, _-_}
-use mathlib.Core.Bool.{Bool, true, false, cond, not, _&&_, _||_}
-use mathlib.Core.List.{List, [], _∷_}
-use lib.Dec.{eqb, ltb}
+use Rattle.laws.specs.Usual.{Bool, true, false, cond, not, _&&_, _||_, List, [], _∷_, ℕ, suc, _-_, eqb, ltb}
 use Rattle.frame.specs.Codes.{isToken}
 use Rattle.panel.specs.declared.Figure.the-variants.{Nothing, Over, Gap}
 use Rattle.station.specs.Rules.Asking.{askOf, dueFields}

@@ -1,11 +1,7 @@
 -- What a call does to the panel: a participant's tick counts, and then a taking ends the gap. Assumes nothing.
-use mathlib.Core.Path.{_≡_, refl, sym, _∙_}
-use mathlib.Core.Bool.{Bool, true, false, cond, not, _&&_, _||_, false≢true}
-use Prim.Native.Nat.{ℕ, _<_}
-use native.Mathlib.Omega.{arith}
-use lib.Dec.{eqb}
+use Rattle.laws.specs.Usual.{_≡_, refl, sym, _∙_, Bool, true, false, cond, not, _&&_, _||_, false≢true, ℕ, _<_, arith, eqb}
 use Rattle.block.specs.Blocks.{blocksOf}
-use Rattle.panel.specs.Panel.{blank, ticked, taken}
+use Rattle.panel.specs.Panel.{blank, ticked, afterTaking}
 use Rattle.station.specs.Panel.History.{participates, takingBy}
 use Rattle.station.specs.Rules.State.{holds, begun, counted}
 use Rattle.station.specs.Rules.Token.{restarted, takes}
@@ -21,7 +17,7 @@ base before ticks = cond (participates before) (cond ticks (ticked (before .pane
 
 -- what a step leaves a participant with
 pub record Moved (before : Station) (ticks passed : Bool) (left : Station) : Type 0 where
-  pub panel : left .panel ≡ cond (takingBy before passed left) (taken (base before ticks)) (base before ticks)
+  pub panel : left .panel ≡ cond (takingBy before passed left) (afterTaking (base before ticks)) (base before ticks)
   pub room : Room left
 
 -- a step keeps what holds of a participant, and the panel of anybody else blank
@@ -46,7 +42,7 @@ stays station = record {
 }
   where
     by : (p h : Bool) (panel : Panel) → p ≡ true → panel ≡
-        cond ((((p && p) && (h && not h)) || false) || ((not p && p) && h)) (taken (cond p panel blank)) (cond p panel blank)
+        cond ((((p && p) && (h && not h)) || false) || ((not p && p) && h)) (afterTaking (cond p panel blank)) (cond p panel blank)
     by true true panel e = refl
     by true false panel e = refl
     by false h panel e = absurd (false≢true e)
@@ -57,9 +53,9 @@ pub begin : (before : Station) (ticks : Bool) (own : Settings) (members : Member
 begin before ticks own members view out =
     enter refl (λ room. record { panel = by (participates before) out (eqb view (own .number)); room = omega arith })
   where
-    by : (p : Bool) → p ≡ false → (h : Bool) → cond h (taken blank) blank ≡
+    by : (p : Bool) → p ≡ false → (h : Bool) → cond h (afterTaking blank) blank ≡
         cond ((((p && true) && (h && not (holds before))) || false) || ((not p && true) && h))
-        (taken (cond p (cond ticks (ticked (before .panel)) (before .panel)) blank))
+        (afterTaking (cond p (cond ticks (ticked (before .panel)) (before .panel)) blank))
         (cond p (cond ticks (ticked (before .panel)) (before .panel)) blank)
     by true e h = absurd (false≢true (sym e))
     by false e true = refl
@@ -74,7 +70,7 @@ module _ (station : Station) (inside : participates station ≡ true) where
     room = kept (eqb view (station .own .number)) (room inside);
   })
     where
-      came : (test : Bool) (panel : Panel) → cond test (taken panel) panel ≡ cond ((test || false) || false) (taken panel) panel
+      came : (test : Bool) (panel : Panel) → cond test (afterTaking panel) panel ≡ cond ((test || false) || false) (afterTaking panel) panel
       came true panel = refl
       came false panel = refl
 
@@ -86,6 +82,6 @@ module _ (station : Station) (inside : participates station ≡ true) where
   pub only-counts : (elapsed : Ticks) → Moves station true false (counted station (station .own) elapsed (station .waited) (ticked (station .panel)))
   only-counts elapsed = enter inside (λ room. record { panel = rw inside (by (holds station) (ticked (station .panel))); room = room inside })
     where
-      by : (h : Bool) (panel : Panel) → panel ≡ cond (((h && not h) || false) || false) (taken panel) panel
+      by : (h : Bool) (panel : Panel) → panel ≡ cond (((h && not h) || false) || false) (afterTaking panel) panel
       by true panel = refl
       by false panel = refl

@@ -1,9 +1,6 @@
 -- Demand 2: "The panel is the gap. For every list of calls since off, the panel shows what the history of that list says." Assumes nothing.
-use mathlib.Core.Path.{_≡_, refl, sym, _∙_}
-use mathlib.Core.Bool.{Bool, true, false, cond, not, _&&_, false≢true}
-use mathlib.Core.List.{List, [], _∷_}
-use Prim.Native.Nat.{ℕ, suc}
-use Rattle.panel.specs.Panel.{blank, ticked, taken, figureOf}
+use Rattle.laws.specs.Usual.{_≡_, refl, sym, _∙_, Bool, true, false, cond, not, _&&_, false≢true, List, [], _∷_, ℕ, suc}
+use Rattle.panel.specs.Panel.{blank, ticked, afterTaking, figureOf}
 use Rattle.panel.specs.declared.Figure.the-variants.{Nothing}
 use Rattle.station.specs.Outcomes.AskCases.{ask-cases}
 use Rattle.station.specs.Rules.Calls.{Call, start, stop, tick, hear, ask, after}
@@ -35,7 +32,7 @@ record Agrees (steps : List Step) (station : Station) : Type 0 where
 
 -- a step's taking
 after-taking : (taking : Bool) (now : ℕ) (times : List ℕ) (panel : Panel) → Counts now times panel →
-    Counts now (noted taking now times) (cond taking (taken panel) panel)
+    Counts now (noted taking now times) (cond taking (afterTaking panel) panel)
 after-taking true now times panel c = counts-taken now times panel c
 after-taking false now times panel c = c
 

@@ -1,6 +1,5 @@
 -- What a tick does to the panel. Assumes nothing.
-use mathlib.Core.Path.{refl}
-use mathlib.Core.Bool.{true, false}
+use Rattle.laws.specs.Usual.{refl, true, false}
 use Rattle.members.specs.Members.{smallest}
 use Rattle.station.specs.Outcomes.TickCases.{TickCases, off, listens, starts, lapses, begins, givesUp, learns, waits, ends, runs}
 use Rattle.station.specs.Rules.Ticking.{later, Ticking}

@@ -1,15 +1,11 @@
 -- Asking for a frame (paper 01, "Starting and joining", "The token view and the watch").
-use Prim.Native.Nat.{ℕ, _+_}
-use mathlib.Core.Bool.{Bool, false, cond, not, _&&_}
-use mathlib.Core.List.{List}
-use lib.Dec.{eqb, leb, ltb}
-use lib.ListN.{length, drop}
+use Rattle.laws.specs.Usual.{Bool, false, cond, not, _&&_, List, ℕ, _+_, length, drop, eqb, leb, ltb}
 use Rattle.area.specs.Areas.{inRange, memoryOctets}
 use Rattle.block.specs.Blocks.{blocksOf, startOf}
 use Rattle.copying.specs.Pasted.{pasted}
 use Rattle.frame.specs.declared.Refusal.the-variants as refusals
 use Rattle.members.specs.Members.{nextAfter}
-use Rattle.panel.specs.Panel.{taken}
+use Rattle.panel.specs.Panel.{afterTaking}
 use Rattle.frame_round_trip.specs.Sent.{blockFields, requestFields, triggerFields}
 use Rattle.frame_writing.specs.Writing.{wholeLength, outputOf}
 use Rattle.station.specs.Rules.Data.{turnOf}
@@ -88,7 +84,7 @@ blockSent station =
     (cond (isLast station) (nextStation station) (station .view))
     (cond (isLast station) 0 (nextBlock station))
     (station .gathering)
-    (cond (isLast station && eqb (nextStation station) (station .own .number)) (taken (station .panel)) (station .panel))
+    (cond (isLast station && eqb (nextStation station) (station .own .number)) (afterTaking (station .panel)) (station .panel))
 
 -- "A trigger sent .. begins ring startup"; "once sent, we participate, and our view is the last token destination heard"
 abbrev pub sentIn : Phase → Station → Station

@@ -1,6 +1,5 @@
 -- All calls of a station, each with the buffers that are lent to it.
-use Prim.Native.Nat.{ℕ}
-use mathlib.Core.List.{List, [], _∷_}
+use Rattle.laws.specs.Usual.{List, [], _∷_, ℕ}
 use Rattle.station.specs.Rules.Asking.{askOf}
 use Rattle.station.specs.Rules.Hearing.{hearOf}
 use Rattle.station.specs.Rules.Starting.{startOf, stopOf}
@@ -48,25 +47,25 @@ after station (ask memory turn output) = askOf station memory turn output .stati
 -- what a call answered, as far as it is a refusal
 pub data Verdict : Type 0 where
   refusedBy : Refusal → Verdict
-  taken : Verdict
+  unrefused : Verdict
 
 abbrev pub switchedVerdict : Switched → Verdict
-switchedVerdict switched.Done = taken
+switchedVerdict switched.Done = unrefused
 switchedVerdict (switched.Refused refusal) = refusedBy refusal
 
 abbrev pub heardVerdict : Heard → Verdict
-heardVerdict heard.Off = taken
-heardVerdict heard.Done = taken
-heardVerdict (heard.Cyclic token) = taken
+heardVerdict heard.Off = unrefused
+heardVerdict heard.Done = unrefused
+heardVerdict (heard.Cyclic token) = unrefused
 heardVerdict (heard.Refused refusal) = refusedBy refusal
 
 abbrev pub askedVerdict : Asked → Verdict
-askedVerdict (asked.Octets count) = taken
+askedVerdict (asked.Octets count) = unrefused
 askedVerdict (asked.Refused refusal) = refusedBy refusal
 
 abbrev pub verdict : Station → Call → Verdict
 verdict station (start settings) = switchedVerdict (startOf station settings .answer)
 verdict station stop = switchedVerdict (stopOf station .answer)
-verdict station tick = taken
+verdict station tick = unrefused
 verdict station (hear octets memory assembly) = heardVerdict (hearOf station octets memory assembly .answer)
 verdict station (ask memory turn output) = askedVerdict (askOf station memory turn output .answer)

@@ -1,9 +1,5 @@
 -- Paper 01, "Data": putting divided cyclic data together, and the copy that a turn is sent from.
-use Prim.Native.Nat.{ℕ, _+_, _*_}
-use mathlib.Core.Bool.{Bool, cond, _&&_, _||_}
-use mathlib.Core.List.{List, _++_}
-use lib.Dec.{eqb}
-use lib.ListN.{take, drop}
+use Rattle.laws.specs.Usual.{Bool, cond, _&&_, _||_, List, _++_, ℕ, _+_, _*_, take, drop, eqb}
 use Rattle.area.specs.Areas.{spanOf}
 use Rattle.area.specs.declared.Area.the-variants.{One, Two}
 use Rattle.area.specs.declared.Span.{Span}

@@ -1,9 +1,5 @@
 -- Hearing a frame (paper 01, "Numbers the station answers with", "Starting and joining", "The token view and the watch", "Data").
-use Prim.Native.Nat.{ℕ}
-use mathlib.Core.Bool.{Bool, cond, not, _&&_, _||_}
-use mathlib.Core.List.{List}
-use lib.Dec.{eqb}
-use lib.ListN.{length}
+use Rattle.laws.specs.Usual.{Bool, cond, not, _&&_, _||_, List, ℕ, length, eqb}
 use Rattle.area.specs.Areas.{memoryOctets}
 use Rattle.frame.specs.Codes.{isToken, isCyclic}
 use Rattle.frame.specs.declared.Code.the-variants.{Token, Cyclic, Request, Trigger}

@@ -1,8 +1,5 @@
 -- Paper 01, "Starting and joining": start and stop, when our trigger and our request are due, and what joining reads.
-use Prim.Native.Nat.{ℕ, _+_, min}
-use mathlib.Core.Bool.{Bool, true, false, cond, not, _&&_}
-use mathlib.Core.List.{List, [], _∷_}
-use lib.Dec.{leb, eqb, ltb}
+use Rattle.laws.specs.Usual.{Bool, true, false, cond, not, _&&_, List, [], _∷_, ℕ, _+_, min, eqb, leb, ltb}
 use Rattle.area.specs.Areas.{inRange}
 use Rattle.frame.specs.Codes.{isToken}
 use Rattle.frame.specs.declared.Refusal.the-variants as refusals

@@ -1,9 +1,7 @@
 -- The state of a station: at the beginning of each phase, and with some of its parts changed.
-use Prim.Native.Nat.{ℕ}
-use mathlib.Core.Bool.{Bool, true, false, cond}
-use lib.Dec.{eqb}
+use Rattle.laws.specs.Usual.{Bool, true, false, cond, ℕ, eqb}
 use Rattle.members.specs.Members.{noMembers}
-use Rattle.panel.specs.Panel.{blank, taken}
+use Rattle.panel.specs.Panel.{blank, afterTaking}
 use Rattle.frame_writing.specs.Writing.{noAreas, noWatch}
 use Rattle.station.specs.Types.{Ticks, Members, Panel, Settings, Phase, Off, Listening, Startup, Joining, Participating, Gathering, Station}
 
@@ -69,7 +67,7 @@ begun own members view = record {
   view = view;
   block = 0;
   gathering = nothing;
-  panel = cond (eqb view (own .number)) (taken blank) blank;
+  panel = cond (eqb view (own .number)) (afterTaking blank) blank;
 }
 
 -- A state with some of its parts changed. Whatever makes a state of a state goes by these, so that each part is named here once.

@@ -1,7 +1,5 @@
 -- A tick (paper 01, "Starting and joining", "The token view and the watch").
-use Prim.Native.Nat.{ℕ, _+_, min}
-use mathlib.Core.Bool.{Bool, cond, _&&_}
-use lib.Dec.{eqb, leb, ltb}
+use Rattle.laws.specs.Usual.{Bool, cond, _&&_, ℕ, _+_, min, eqb, leb, ltb}
 use Rattle.members.specs.Members.{numbersOf, nextAfter, isListed, strikes, missed}
 use Rattle.panel.specs.Panel.{ticked}
 use Rattle.station.specs.Rules.Data.{without}

@@ -1,10 +1,8 @@
 -- Paper 01, "The token view and the watch". "View", "taking" and "silence" are the paper's own terms: a participant's view is the number it
 -- takes to be the holder.
-use Prim.Native.Nat.{ℕ, min}
-use mathlib.Core.Bool.{Bool, cond, not, _&&_}
-use lib.Dec.{eqb}
+use Rattle.laws.specs.Usual.{Bool, cond, not, _&&_, ℕ, min, eqb}
 use Rattle.frame.specs.Codes.{isToken}
-use Rattle.panel.specs.Panel.{taken}
+use Rattle.panel.specs.Panel.{afterTaking}
 use Rattle.station.specs.Rules.State.{moved}
 use Rattle.station.specs.Types.{Fields, Members, Panel, Gathering, Station, Data, Token}
 use Rattle.station.specs.declared.Token.the-variants.{None, PassedOn, OursNow, RivalPassedOver, RivalWon}
@@ -29,7 +27,7 @@ restarted station members view gathering panel =
     moved station members view
     (cond (eqb view (station .own .number)) (station .block) 0)
     gathering
-    (cond (takes (station .own .number) (station .view) view) (taken panel) panel)
+    (cond (takes (station .own .number) (station .view) view) (afterTaking panel) panel)
 
 -- "None: code 65001, or we don't participate. Ours now: our view became our number. Else passed on: the source was our view. Else rival won:
 -- the view changed. Else rival passed over."

@@ -1,9 +1,5 @@
 -- A tick keeps the areas apart. Assumes nothing.
-use mathlib.Core.Path.{_≡_, refl, sym, _∙_}
-use mathlib.Core.Bool.{Bool, true, false, cond, _&&_, false≢true}
-use Prim.Native.Nat.{_+_, _≤_, min}
-use native.Mathlib.Omega.{arith}
-use lib.Dec.{eqb, leb, ltb}
+use Rattle.laws.specs.Usual.{_≡_, refl, sym, _∙_, Bool, true, false, cond, _&&_, false≢true, _+_, _≤_, min, arith, eqb, leb, ltb}
 use borrow.Author.Tests.{leb-true, ltb-false, le-leb}
 use Rattle.laws.specs.Tests.{both, first, second}
 use Rattle.members.specs.Listing.{bare, overlapsListed}

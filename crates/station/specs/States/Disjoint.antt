@@ -1,12 +1,7 @@
 -- No overlap between listed areas, nor between them and ours once our request has fallen due: the definition, and what the operations on the
 -- list keep of it. Assumes nothing.
-use mathlib.Core.Path.{_≡_, refl, sym, ap₂, _∙_}
-use mathlib.Core.Bool.{Bool, true, false, cond, not, _&&_, _||_, false≢true}
-use mathlib.Core.List.{List, [], _∷_}
-use Prim.Native.Nat.{ℕ, zero, suc, _+_}
-use native.Mathlib.Omega.{arith}
-use lib.Dec.{eqb}
-use lib.ListN.{getD}
+use Rattle.laws.specs.Usual.{_≡_, refl, sym, ap₂, _∙_, Bool, true, false, cond, not, _&&_, _||_, false≢true, List, [], _∷_, ℕ, suc, _+_, arith, getD, eqb}
+use Prim.Native.Nat.{zero}
 use borrow.Author.Tests.{ne-eqb}
 use Rattle.area.specs.Overlap.{filled, startsBeforeEnd, partsOverlap, areasOverlap}
 use Rattle.laws.specs.Tests.{neither-first, neither-second}

@@ -1,10 +1,5 @@
 -- Asking for a frame keeps what holds in every state. Assumes nothing.
-use mathlib.Core.Path.{_≡_, refl, sym, _∙_}
-use mathlib.Core.Bool.{Bool, true, false, cond, _&&_, false≢true}
-use mathlib.Core.List.{List}
-use Prim.Native.Nat.{ℕ, _<_}
-use native.Mathlib.Omega.{arith}
-use lib.Dec.{eqb}
+use Rattle.laws.specs.Usual.{_≡_, refl, sym, _∙_, Bool, true, false, cond, _&&_, false≢true, List, ℕ, _<_, arith, eqb}
 use borrow.Author.Tests.{leb-false}
 use Rattle.block.specs.Blocks.{blocksOf}
 use Rattle.frame_reading.specs.Reading.{isStation}

@@ -1,11 +1,5 @@
 -- Hearing a frame keeps what holds in every state. Assumes nothing.
-use mathlib.Core.Path.{_≡_, sym}
-use mathlib.Core.Bool.{false, false≢true, true}
-use mathlib.Core.List.{List}
-use Prim.Native.Nat.{ℕ, _<_}
-use native.Mathlib.Omega.{arith}
-use lib.Dec.{eqb}
-use lib.ListN.{getD}
+use Rattle.laws.specs.Usual.{_≡_, sym, true, false, false≢true, List, ℕ, _<_, arith, getD, eqb}
 use borrow.Author.Tests.{eqb-false}
 use Rattle.block.specs.Blocks.{blocksOf}
 use Rattle.members.specs.Members.{entryOf, cleared}

@@ -1,13 +1,9 @@
 -- What the beginning of each phase has, and that start and stop keep what holds in every state. Assumes nothing.
-use mathlib.Core.Path.{_≡_, refl, sym, _∙_}
-use mathlib.Core.Bool.{Bool, true, false, cond, false≢true}
-use Prim.Native.Nat.{ℕ, _≤_, _<_}
-use native.Mathlib.Omega.{arith}
-use lib.Dec.{eqb, leb}
+use Rattle.laws.specs.Usual.{_≡_, refl, sym, _∙_, Bool, true, false, cond, false≢true, ℕ, _<_, _≤_, arith, eqb, leb}
 use borrow.Author.Tests.{leb-true, ltb-true}
 use Rattle.block.specs.Blocks.{blocksOf}
 use Rattle.laws.specs.Tests.{second, first}
-use Rattle.panel.specs.Panel.{blank, taken, ticked}
+use Rattle.panel.specs.Panel.{blank, afterTaking, ticked}
 use Rattle.frame_reading.specs.Reading.{isStation}
 use Rattle.station.specs.States.ListKept.{none-listed, empty-kept}
 use Rattle.station.specs.States.Reachable.{TypedSettings, Ours, Listed, Placed, Shown, hasView, limitOf, Sound}
@@ -21,7 +17,7 @@ use Rattle.station.specs.Types.{Members, Panel, Settings, Phase, Off, Li
 pub blank-shown : Shown blank
 blank-shown = record { takings = omega arith; running = omega arith; gap = omega arith }
 
-pub taken-shown : {panel : Panel} (test : Bool) → Shown panel → Shown (cond test (taken panel) panel)
+pub taken-shown : {panel : Panel} (test : Bool) → Shown panel → Shown (cond test (afterTaking panel) panel)
 taken-shown true shown = record { takings = omega arith; running = omega arith; gap = shown .running }
 taken-shown false shown = shown
 

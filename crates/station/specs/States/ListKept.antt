@@ -1,11 +1,7 @@
 -- What the operations on the list keep of it. Assumes nothing.
-use mathlib.Core.Path.{_≡_, refl, sym, ap, subst, _∙_}
-use mathlib.Core.Bool.{Bool, true, false, cond, _||_, false≢true}
-use mathlib.Core.List.{List, [], _∷_}
-use Prim.Native.Nat.{ℕ, zero, suc, _+_, _≤_, _<_}
-use native.Mathlib.Omega.{arith}
-use lib.Dec.{eqb, ltb}
-use lib.ListN.{getD, set, replicate, length-replicate, length-set}
+use Rattle.laws.specs.Usual.{_≡_, refl, sym, ap, subst, _∙_, Bool, true, false, cond, _||_, false≢true, List, [], _∷_, ℕ, suc, _+_, _<_, _≤_, arith, getD, set, replicate, eqb, ltb}
+use Prim.Native.Nat.{zero}
+use lib.ListN.{length-replicate, length-set}
 use borrow.Author.Tests.{leb-true, leb-false, le-leb}
 use Rattle.area.specs.Areas.{inArea, inRange}
 use Rattle.area.specs.Overlap.{areasOverlap}

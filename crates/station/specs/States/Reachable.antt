@@ -1,9 +1,5 @@
 -- The states that calls can leave since off, and what holds in each of them: the definitions alone.
-use mathlib.Core.Path.{_≡_}
-use mathlib.Core.Bool.{Bool, true, false, _&&_}
-use Prim.Native.Nat.{ℕ, _+_, _≤_, _<_}
-use lib.Dec.{eqb}
-use lib.ListN.{getD, length}
+use Rattle.laws.specs.Usual.{_≡_, Bool, true, false, _&&_, ℕ, _+_, _<_, _≤_, length, getD, eqb}
 use Rattle.area.specs.Areas.{inRange}
 use Rattle.block.specs.Blocks.{blocksOf}
 use Rattle.members.specs.Members.{entryOf, isListed}

@@ -1,8 +1,5 @@
 -- What holds after any list of calls with any arguments since off. Assumes nothing.
-use mathlib.Core.Path.{_≡_, sym, _∙_}
-use mathlib.Core.Bool.{true, false, false≢true}
-use mathlib.Core.List.{List, [], _∷_}
-use Prim.Native.Nat.{ℕ}
+use Rattle.laws.specs.Usual.{_≡_, sym, _∙_, true, false, false≢true, List, [], _∷_, ℕ}
 use Rattle.area.specs.Overlap.{partsOverlap, areasOverlap}
 use Rattle.area.specs.Words.{Holds, shared-overlap}
 use Rattle.laws.specs.Tests.{neither-first, neither-second}

@@ -1,12 +1,8 @@
 -- The list with ours is a ring of different numbers in ascending order: our own, and those listed. Assumes nothing.
-use mathlib.Core.Path.{_≡_, refl, sym, subst}
-use mathlib.Core.Bool.{Bool, true, false, cond, false≢true}
+use Rattle.laws.specs.Usual.{_≡_, refl, sym, subst, Bool, true, false, cond, false≢true, List, [], _∷_, ℕ, suc, _+_, _<_, arith, length, getD, ltb}
 use mathlib.Core.Logic.{_⊎_, inl, inr}
-use mathlib.Core.List.{List, [], _∷_, List·Memᴰ·head, List·Memᴰ·tail}
-use Prim.Native.Nat.{ℕ, zero, suc, _+_, _<_}
-use native.Mathlib.Omega.{arith}
-use lib.Dec.{ltb}
-use lib.ListN.{length, getD}
+use mathlib.Core.List.{List·Memᴰ·head, List·Memᴰ·tail}
+use Prim.Native.Nat.{zero}
 use borrow.Author.Tests.{ltb-true, ltb-false, eqb-false}
 use Rattle.members.specs.Members.{nobody, isListed, numbersFrom, numbersOf, withOurs, ringOf}
 use Rattle.station.specs.Types.{Entry, Members}

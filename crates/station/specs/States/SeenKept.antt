@@ -1,9 +1,6 @@
 -- A participant's view is its own number or a listed one, if it was so before: every call keeps this, but that who begins to participate from
 -- joining can begin with another view, the last token destination heard. Assumes nothing.
-use mathlib.Core.Path.{_≡_, refl}
-use mathlib.Core.Bool.{Bool, true, false, cond, false≢true}
-use mathlib.Core.List.{List}
-use Prim.Native.Nat.{ℕ}
+use Rattle.laws.specs.Usual.{_≡_, refl, Bool, true, false, cond, false≢true, List, ℕ}
 use Rattle.station.specs.Outcomes.AskCases as on-asking
 use Rattle.station.specs.Rules.Calls.{Call, start, stop, tick, hear, ask, after}
 use Rattle.station.specs.Outcomes.HearCases.{off, begins, joins, passes, reads, lists, ignores, HearCases, refuses, turnsOff, gathers, heeds, hear-cases}

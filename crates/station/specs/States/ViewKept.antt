@@ -1,10 +1,6 @@
 -- Numbers that are ours or listed, and what the operations on the list keep of them. Assumes nothing.
-use mathlib.Core.Path.{_≡_, refl, sym, ap, subst, _∙_}
-use mathlib.Core.Bool.{Bool, true, false, cond, _||_}
-use Prim.Native.Nat.{ℕ, _+_, _<_}
-use native.Mathlib.Omega.{arith}
+use Rattle.laws.specs.Usual.{_≡_, refl, sym, ap, subst, _∙_, Bool, true, false, cond, _||_, ℕ, _+_, _<_, arith, eqb}
 use native.Mathlib.Decide.{ℕ-discrete}
-use lib.Dec.{eqb}
 use borrow.Author.Tests.{eq-eqb, eqb-false}
 use Rattle.members.specs.Members.{nobody, entryOf, isListed, withEntry, missesSet, struck, strikes, missed, nextAfter, ringOf, smallest}
 use Rattle.station.specs.Types.{Entry, Members}

@@ -1,9 +1,6 @@
 -- `text::put_decimal` meets its contract. The number falls at each call of itself.
-use mathlib.Core.Path.{ap, ap₂, sym, _∙_}
-use mathlib.Core.List.{List, [], _∷_}
-use Prim.Native.Nat.{ℕ, _+_, _/_, _%_, _<_}
-use native.Mathlib.Omega.{arith}
-use lib.ListN.{set, length-append, length-set}
+use Rattle.laws.specs.Usual.{sym, ap, ap₂, _∙_, List, [], _∷_, ℕ, _+_, _/_, _%_, _<_, arith, set}
+use lib.ListN.{length-append, length-set}
 use Rattle.copying.specs.Laws.{paste-one, paste-more}
 use Rattle.copying.specs.Pasted.{pasted}
 use Rattle.text.specs.Decimal.{decimalOf}

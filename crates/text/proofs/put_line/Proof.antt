@@ -1,15 +1,11 @@
 -- `text::put_line` meets its contract.
-use mathlib.Core.Path.{_≡_, ap, ap₂, sym, _∙_}
-use mathlib.Core.List.{List, [], _∷_, _++_}
-use Prim.Native.Nat.{ℕ, _+_, _<_}
+use Rattle.laws.specs.Usual.{_≡_, sym, ap, ap₂, _∙_, List, [], _∷_, _++_, ℕ, _+_, _<_, arith, length, set, needs}
 use native.Mathlib.Nat.{zero-add}
-use native.Mathlib.Omega.{arith}
-use lib.ListN.{length, set, length-append, length-set}
+use lib.ListN.{length-append, length-set}
 use Rattle.copying.specs.Laws.{paste-append, paste-more}
 use Rattle.copying.specs.Pasted.{pasted}
 use Rattle.text.specs.LineLaws.{numbers-length}
 use Rattle.text.specs.Lines.{lineFeed, numbersOf}
-use borrow.Author.Needs.{needs}
 use Rattle.text.proofs.put_line.Statement.{statement}
 use Rattle.text.proofs.put_line.Tie as tie
 

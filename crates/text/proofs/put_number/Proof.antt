@@ -1,14 +1,10 @@
 -- `text::put_number` meets its contract.
-use mathlib.Core.Path.{ap, _∙_}
-use mathlib.Core.List.{List, [], _∷_}
-use Prim.Native.Nat.{ℕ, _+_, _<_}
-use lib.ListN.{length, length-set}
+use Rattle.laws.specs.Usual.{ap, _∙_, List, [], _∷_, ℕ, _+_, _<_, arith, length, needs}
+use lib.ListN.{length-set}
 use Rattle.copying.specs.Laws.{paste-one, paste-append}
 use Rattle.copying.specs.Pasted.{pasted}
 use Rattle.text.specs.Decimal.{decimalOf}
 use Rattle.text.specs.Lines.{comma}
-use native.Mathlib.Omega.{arith}
-use borrow.Author.Needs.{needs}
 use Rattle.text.proofs.put_number.Statement.{statement}
 use Rattle.text.proofs.put_number.Tie as tie
 

@@ -1,12 +1,8 @@
 -- `text::put_numbers` meets its contract.
-use mathlib.Core.Path.{_≡_, refl, ap, ap₂, sym, _∙_}
-use mathlib.Core.List.{List, _∷_, _++_}
-use Prim.Native.Nat.{ℕ, _+_, _-_, _<_, _≤_}
+use Rattle.laws.specs.Usual.{_≡_, refl, sym, ap, ap₂, _∙_, List, _∷_, _++_, ℕ, _+_, _-_, _<_, _≤_, arith, length, getD, take, needs}
 use native.Mathlib.Numerals.{add-one}
-use native.Mathlib.Omega.{arith}
-use lib.ListN.{length, take, getD, length-append}
+use lib.ListN.{length-append}
 use lib.Seq.{length-take-le, take-suc, take-all}
-use borrow.Author.Needs.{needs}
 use Rattle.copying.specs.Laws.{paste-nothing, paste-append}
 use Rattle.copying.specs.Pasted.{pasted}
 use Rattle.text.specs.Decimal.{decimalOf}

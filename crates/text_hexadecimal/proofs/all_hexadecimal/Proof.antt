@@ -1,11 +1,8 @@
 -- `text_hexadecimal::all_hexadecimal` meets its contract.
-use mathlib.Core.Path.{_≡_, refl, sym, _∙_}
-use Prim.Native.Nat.{_-_}
-use lib.ListN.{length, drop}
+use Rattle.laws.specs.Usual.{_≡_, refl, sym, _∙_, _-_, length, drop, needs}
 use borrow.Author.Tests.{not-true, not-false}
 use Rattle.text_hexadecimal.specs.OctetLaws.{all-none, all-more, all-done}
 use Rattle.text_hexadecimal.specs.Octets.{allHexadecimal}
-use borrow.Author.Needs.{needs}
 use Rattle.text_hexadecimal.proofs.all_hexadecimal.Statement.{statement}
 use Rattle.text_hexadecimal.proofs.all_hexadecimal.Tie as tie
 

@@ -1,7 +1,6 @@
 -- `text_hexadecimal::digit_of` meets its contract.
-use native.Mathlib.Omega.{arith}
+use Rattle.laws.specs.Usual.{arith, needs}
 use borrow.Author.Tests.{le-leb, lt-leb}
-use borrow.Author.Needs.{needs}
 use Rattle.text_hexadecimal.proofs.digit_of.Statement.{statement}
 use Rattle.text_hexadecimal.proofs.digit_of.Tie as tie
 

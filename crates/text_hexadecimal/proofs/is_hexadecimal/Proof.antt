@@ -1,6 +1,5 @@
 -- `text_hexadecimal::is_hexadecimal` meets its contract.
-use mathlib.Core.Path.{sym, _∙_}
-use borrow.Author.Needs.{needs}
+use Rattle.laws.specs.Usual.{sym, _∙_, needs}
 use Rattle.text_hexadecimal.proofs.is_hexadecimal.Statement.{statement}
 use Rattle.text_hexadecimal.proofs.is_hexadecimal.Tie as tie
 

@@ -1,9 +1,6 @@
 -- `text_hexadecimal::octet_at` meets its contract.
-use Prim.Native.Nat.{_+_, _*_}
-use native.Mathlib.Omega.{arith}
-use lib.ListN.{getD}
+use Rattle.laws.specs.Usual.{_+_, _*_, arith, getD, needs}
 use Rattle.text_hexadecimal.specs.OctetLaws.{value-below}
-use borrow.Author.Needs.{needs}
 use Rattle.text_hexadecimal.proofs.octet_at.Statement.{statement}
 use Rattle.text_hexadecimal.proofs.octet_at.Tie as tie
 

@@ -1,10 +1,6 @@
 -- `text_hexadecimal::size_of` meets its contract.
-use mathlib.Core.Path.{ap, sym, _∙_}
-use mathlib.Core.Bool.{Bool, cond, _&&_}
-use Prim.Native.Nat.{_/_}
-use lib.ListN.{length}
+use Rattle.laws.specs.Usual.{sym, ap, _∙_, Bool, cond, _&&_, _/_, length, needs}
 use Rattle.text_hexadecimal.specs.OctetLaws.{even, octets-length}
-use borrow.Author.Needs.{needs}
 use Rattle.text_hexadecimal.proofs.size_of.Statement.{statement}
 use Rattle.text_hexadecimal.proofs.size_of.Tie as tie
 

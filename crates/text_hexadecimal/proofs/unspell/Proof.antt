@@ -1,16 +1,12 @@
 -- `text_hexadecimal::unspell` meets its contract.
-use mathlib.Core.Path.{_≡_, refl, ap, ap₂, sym, _∙_}
-use mathlib.Core.List.{List, _++_}
-use Prim.Native.Nat.{ℕ, _+_, _-_, _≤_}
+use Rattle.laws.specs.Usual.{_≡_, refl, sym, ap, ap₂, _∙_, List, _++_, ℕ, _+_, _-_, _≤_, arith, length, getD, take, drop, set, needs}
 use native.Mathlib.Nat.{zero-add}
 use native.Mathlib.Numerals.{add-one}
-use native.Mathlib.Omega.{arith}
-use lib.ListN.{length, getD, set, take, drop, length-set}
+use lib.ListN.{length-set}
 use lib.Seq.{paste, paste-zero, paste-suc, length-take-le, take-all}
 use Rattle.copying.specs.Pasted.{pasted}
 use Rattle.text_hexadecimal.specs.OctetLaws.{octets-most, octet-at}
 use Rattle.text_hexadecimal.specs.Octets.{octetsOf}
-use borrow.Author.Needs.{needs}
 use Rattle.text_hexadecimal.proofs.unspell.Statement.{statement}
 use Rattle.text_hexadecimal.proofs.unspell.Tie as tie
 

@@ -1,6 +1,5 @@
 -- `text_hexadecimal::value_of` meets its contract.
-use mathlib.Core.Path.{sym, _∙_}
-use borrow.Author.Needs.{needs}
+use Rattle.laws.specs.Usual.{sym, _∙_, needs}
 use Rattle.text_hexadecimal.proofs.value_of.Statement.{statement}
 use Rattle.text_hexadecimal.proofs.value_of.Tie as tie
 

@@ -1,7 +1,6 @@
 -- `text_reading::decimal_in` meets its contract.
-use mathlib.Core.Path.{sym, _∙_}
+use Rattle.laws.specs.Usual.{sym, _∙_, needs}
 use Rattle.text_reading.specs.ValueLaws.{no-octets, zero-leads, none-leads}
-use borrow.Author.Needs.{needs}
 use Rattle.text_reading.proofs.decimal_in.Statement.{statement}
 use Rattle.text_reading.proofs.decimal_in.Tie as tie
 

@@ -1,13 +1,10 @@
 -- `text_reading::place_from` meets its contract.
-use mathlib.Core.Path.{_≡_, refl, ap}
-use Prim.Native.Nat.{_+_, _-_}
+use Rattle.laws.specs.Usual.{_≡_, refl, ap, _+_, _-_, arith, length, drop, needs}
 use native.Mathlib.Numerals.{add-one}
-use native.Mathlib.Omega.{arith}
-use lib.ListN.{length, drop, drop-of-length-le}
+use lib.ListN.{drop-of-length-le}
 use lib.Seq.{drop-cons}
 use borrow.Author.Tests.{eq-eqb, ne-eqb}
 use Rattle.text_reading.specs.Marks.{before}
-use borrow.Author.Needs.{needs}
 use Rattle.text_reading.proofs.place_from.Statement.{statement}
 use Rattle.text_reading.proofs.place_from.Tie as tie
 

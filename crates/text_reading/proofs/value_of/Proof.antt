@@ -1,12 +1,9 @@
 -- `text_reading::value_of` meets its contract.
-use mathlib.Core.Path.{_≡_, refl, ap, sym, _∙_}
-use Prim.Native.Nat.{_-_, _≤_}
-use native.Mathlib.Omega.{arith}
-use lib.ListN.{length, getD, drop, drop-of-length-le}
+use Rattle.laws.specs.Usual.{_≡_, refl, sym, ap, _∙_, _-_, _≤_, arith, length, getD, drop, needs}
+use lib.ListN.{drop-of-length-le}
 use borrow.Author.Tests.{not-true, not-false}
 use Rattle.text_reading.specs.ValueLaws.{digit-range, value-none, value-high, value-more}
 use Rattle.text_reading.specs.Values.{valueOn}
-use borrow.Author.Needs.{needs}
 use Rattle.text_reading.proofs.value_of.Statement.{statement}
 use Rattle.text_reading.proofs.value_of.Tie as tie
 

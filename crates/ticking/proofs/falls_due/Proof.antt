@@ -1,6 +1,5 @@
 -- `ticking::falls_due` meets its contract.
-use mathlib.Core.Path.{_∙_}
-use borrow.Author.Needs.{needs}
+use Rattle.laws.specs.Usual.{_∙_, needs}
 use Rattle.ticking.proofs.falls_due.Statement.{statement}
 use Rattle.ticking.proofs.falls_due.Tie as tie
 

@@ -1,6 +1,5 @@
 -- `ticking::left` meets its contract.
-use mathlib.Core.Path.{_∙_}
-use borrow.Author.Needs.{needs}
+use Rattle.laws.specs.Usual.{_∙_, needs}
 use Rattle.ticking.proofs.left.Statement.{statement}
 use Rattle.ticking.proofs.left.Tie as tie
 

@@ -1,6 +1,5 @@
 -- `ticking::listening_tick` meets its contract.
-use mathlib.Core.Path.{_∙_}
-use borrow.Author.Needs.{needs}
+use Rattle.laws.specs.Usual.{_∙_, needs}
 use Rattle.ticking.proofs.listening_tick.Statement.{statement}
 use Rattle.ticking.proofs.listening_tick.Tie as tie
 

@@ -1,13 +1,9 @@
 -- `ticking::start_up` meets its contract.
-use mathlib.Core.Path.{_≡_, refl, sym, _∙_}
-use mathlib.Core.Bool.{cond}
-use mathlib.Core.List.{List, [], _∷_}
-use Prim.Native.Nat.{ℕ}
+use Rattle.laws.specs.Usual.{_≡_, refl, sym, _∙_, cond, List, [], _∷_, ℕ, needs}
 use Rattle.members.specs.Members.{isEmpty, numbersOf, smallest}
 use Rattle.station.specs.Rules.Starting.{startedUp}
 use Rattle.station.specs.Rules.State.{fresh, begun}
 use Rattle.station.specs.Types.{Members, Settings, Listening}
-use borrow.Author.Needs.{needs}
 use Rattle.ticking.proofs.start_up.Statement.{statement}
 use Rattle.ticking.proofs.start_up.Tie as tie
 

@@ -1,7 +1,6 @@
 -- `ticking::startup_tick` meets its contract.
-use mathlib.Core.Path.{_∙_}
+use Rattle.laws.specs.Usual.{_∙_, needs}
 use borrow.Author.Tests.{le-leb, lt-leb}
-use borrow.Author.Needs.{needs}
 use Rattle.ticking.proofs.startup_tick.Statement.{statement}
 use Rattle.ticking.proofs.startup_tick.Tie as tie
 

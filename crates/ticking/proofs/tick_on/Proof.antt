@@ -1,8 +1,7 @@
 -- `ticking::tick_on` meets its contract.
-use mathlib.Core.Path.{ap, sym, _∙_}
+use Rattle.laws.specs.Usual.{sym, ap, _∙_, needs}
 use Rattle.station.specs.Rules.Ticking.{tickedBy}
 use Rattle.station.specs.declared.Phase.{Phase}
-use borrow.Author.Needs.{needs}
 use Rattle.ticking.proofs.tick_on.Statement.{statement}
 use Rattle.ticking.proofs.tick_on.Tie as tie
 

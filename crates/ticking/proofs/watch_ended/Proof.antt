@@ -1,6 +1,5 @@
 -- `ticking::watch_ended` meets its contract.
-use mathlib.Core.Path.{_∙_}
-use borrow.Author.Needs.{needs}
+use Rattle.laws.specs.Usual.{_∙_, needs}
 use Rattle.ticking.proofs.watch_ended.Statement.{statement}
 use Rattle.ticking.proofs.watch_ended.Tie as tie
 

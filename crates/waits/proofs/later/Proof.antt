@@ -1,8 +1,5 @@
 -- `waits::later` meets its contract.
-use mathlib.Core.Path.{_≡_}
-use Prim.Native.Nat.{_+_, min}
-use native.Mathlib.Omega.{arith}
-use borrow.Author.Needs.{needs}
+use Rattle.laws.specs.Usual.{_≡_, _+_, min, arith, needs}
 use Rattle.waits.proofs.later.Statement.{statement}
 use Rattle.waits.proofs.later.Tie as tie
 

@@ -1,7 +1,6 @@
 -- `waits::waited_then` meets its contract.
-use mathlib.Core.Path.{_∙_}
+use Rattle.laws.specs.Usual.{_∙_, needs}
 use borrow.Author.Tests.{eq-eqb, ne-eqb}
-use borrow.Author.Needs.{needs}
 use Rattle.waits.proofs.waited_then.Statement.{statement}
 use Rattle.waits.proofs.waited_then.Tie as tie
 

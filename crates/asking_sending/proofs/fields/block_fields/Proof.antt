@@ -1,6 +1,5 @@
 -- `asking_sending::fields::block_fields` meets its contract.
-use native.Mathlib.Omega.{arith}
-use borrow.Author.Needs.{needs}
+use Rattle.laws.specs.Usual.{arith, needs}
 use Rattle.asking_placing.specs.Placed.{placed, last-equal}
 use Rattle.asking_sending.proofs.fields.block_fields.Statement.{statement}
 use Rattle.asking_sending.proofs.fields.block_fields.Tie as tie

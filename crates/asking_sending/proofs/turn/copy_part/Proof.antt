@@ -1,9 +1,6 @@
 -- `asking_sending::turn::copy_part` meets its contract.
-use mathlib.Core.Path.{_≡_, ap, _∙_}
-use mathlib.Core.Bool.{true}
-use Prim.Native.Nat.{ℕ, _+_, _-_, _≤_}
-use native.Mathlib.Omega.{arith}
-use lib.ListN.{length, take, drop, length-take}
+use Rattle.laws.specs.Usual.{_≡_, ap, _∙_, true, ℕ, _+_, _-_, _≤_, arith, length, take, drop, needs}
+use lib.ListN.{length-take}
 use Rattle.area.specs.Areas.{inArea, spanOf, memoryOctets}
 use Rattle.area.specs.Within.{inside}
 use Rattle.area.specs.declared.Area.{Area}
@@ -11,7 +8,6 @@ use Rattle.area.specs.declared.Part.{Part}
 use Rattle.area.specs.declared.Span.{Span}
 use Rattle.copying.specs.Pasted.{pasted}
 use Rattle.station.specs.Rules.Data.{octetsIn}
-use borrow.Author.Needs.{needs}
 use Rattle.asking_sending.proofs.turn.copy_part.Statement.{statement}
 use Rattle.asking_sending.proofs.turn.copy_part.Tie as tie
 

@@ -1,11 +1,7 @@
 -- `asking_sending::turn::copy_turn` meets its contract.
-use mathlib.Core.Path.{_≡_, ap, sym, _∙_}
-use mathlib.Core.Bool.{true}
-use mathlib.Core.List.{List}
-use Prim.Native.Nat.{ℕ, _*_, _≤_}
-use native.Mathlib.Omega.{arith}
+use Rattle.laws.specs.Usual.{_≡_, sym, ap, _∙_, true, List, ℕ, _*_, _≤_, arith, length, drop, needs}
 use native.Mathlib.Nat.{zero-add}
-use lib.ListN.{length, drop, length-drop}
+use lib.ListN.{length-drop}
 use Rattle.area.specs.Areas.{inArea, inRange, spanOf, memoryOctets}
 use Rattle.area.specs.Within.{inside}
 use Rattle.area.specs.declared.Area.the-variants.{One, Two}
@@ -16,7 +12,6 @@ use Rattle.copying.specs.Pasted.{pasted}
 use Rattle.laws.specs.Tests.{first, second}
 use Rattle.station.specs.Rules.Data.{octetsIn, turnOf}
 use lib.Seq.{length-take-le}
-use borrow.Author.Needs.{needs}
 use Rattle.asking_sending.proofs.turn.copy_turn.Statement.{statement}
 use Rattle.asking_sending.proofs.turn.copy_turn.Tie as tie
 

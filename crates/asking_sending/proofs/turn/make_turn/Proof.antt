@@ -1,7 +1,5 @@
 -- `asking_sending::turn::make_turn` meets its contract.
-use mathlib.Core.Path.{_∙_}
-use native.Mathlib.Omega.{arith}
-use borrow.Author.Needs.{needs}
+use Rattle.laws.specs.Usual.{_∙_, arith, needs}
 use borrow.Author.Tests.{eq-eqb, ne-eqb}
 use Rattle.asking_sending.proofs.turn.make_turn.Statement.{statement}
 use Rattle.asking_sending.proofs.turn.make_turn.Tie as tie

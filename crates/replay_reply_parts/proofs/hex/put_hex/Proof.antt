@@ -1,10 +1,6 @@
 -- `replay_reply_parts::hex::put_hex` meets its contract.
-use mathlib.Core.Path.{_≡_, refl, ap, sym, _∙_}
-use mathlib.Core.List.{_++_}
-use Prim.Native.Nat.{ℕ, _+_, _-_, _<_, _≤_}
+use Rattle.laws.specs.Usual.{_≡_, refl, sym, ap, _∙_, _++_, ℕ, _+_, _-_, _<_, _≤_, arith, length, getD, take}
 use native.Mathlib.Numerals.{add-one}
-use native.Mathlib.Omega.{arith}
-use lib.ListN.{length, take, getD}
 use lib.Seq.{length-take-le, take-suc, take-all}
 use Rattle.copying.specs.Laws.{paste-nothing}
 use Rattle.replay_reply_parts.specs.Hex.{octetText, hexOf}

@@ -1,8 +1,6 @@
 -- `replay_reply_parts::hex::put_octet` meets its contract.
-use mathlib.Core.List.{[], _∷_}
-use native.Mathlib.Omega.{arith}
+use Rattle.laws.specs.Usual.{[], _∷_, arith, needs}
 use Rattle.replay_reply_parts.specs.Written.{then}
-use borrow.Author.Needs.{needs}
 use Rattle.replay_reply_parts.proofs.hex.put_octet.Statement.{statement}
 use Rattle.replay_reply_parts.proofs.hex.put_octet.Tie as tie
 
