@@ -7,7 +7,14 @@ use Rattle.station.specs.declared.Asked.the-variants as asked
 use Rattle.station.specs.declared.Heard.the-variants as heard
 use Rattle.station.specs.declared.Switched.the-variants as switched
 use Rattle.station.specs.declared.Ticked.the-variants as ticked
-use Rattle.station.specs.Types.{Refusal, Data, Kept, Written, Dropped, Token, Switched, Ticked, Heard, Asked}
+use Rattle.frame.specs.declared.Refusal.{Refusal}
+use Rattle.station.specs.declared.Data.{Data}
+use Rattle.station.specs.declared.Data.the-variants.{Kept, Written, Dropped}
+use Rattle.station.specs.declared.Token.{Token}
+use Rattle.station.specs.declared.Switched.{Switched}
+use Rattle.station.specs.declared.Ticked.{Ticked}
+use Rattle.station.specs.declared.Heard.{Heard}
+use Rattle.station.specs.declared.Asked.{Asked}
 use Rattle.station.specs.declared.Token.the-variants.{None, PassedOn, OursNow, RivalPassedOver, RivalWon}
 use Rattle.boundary_answers.specs.Numbers.{switchedAnswer, tickedAnswer, heardAnswer, askedAnswer}
 use Rattle.boundary_answers.specs.declared.Answer.{Answer}

@@ -9,7 +9,12 @@ use Rattle.station.specs.declared.Asked.the-variants as asked
 use Rattle.station.specs.declared.Heard.the-variants as heard
 use Rattle.station.specs.declared.Switched.the-variants as switched
 use Rattle.station.specs.declared.Ticked.the-variants as ticked
-use Rattle.station.specs.Types.{Ticks, Refusal, Figure, Token, Switched, Ticked, Heard, Asked}
+use Rattle.station.specs.Types.{Ticks, Refusal, Figure}
+use Rattle.station.specs.declared.Token.{Token}
+use Rattle.station.specs.declared.Switched.{Switched}
+use Rattle.station.specs.declared.Ticked.{Ticked}
+use Rattle.station.specs.declared.Heard.{Heard}
+use Rattle.station.specs.declared.Asked.{Asked}
 use Rattle.boundary_answers.specs.declared.Answer.{Answer}
 use Rattle.boundary_answers.specs.declared.Shown.{Shown}
 

@@ -7,7 +7,10 @@ use Rattle.panel.specs.declared.Figure.the-variants.{Nothing}
 use Rattle.station.specs.Rules.Answers.{phaseNumber}
 use Rattle.station.specs.Rules.Showing.{figureShown}
 use Rattle.station.specs.Rules.State.{isParticipating}
-use Rattle.station.specs.Types.{Members, Figure, Phase, Off, Listening, Startup, Joining, Participating, Station}
+use Rattle.station.specs.Types.{Members, Figure}
+use Rattle.station.specs.declared.Phase.{Phase}
+use Rattle.station.specs.declared.Phase.the-variants.{Off, Listening, Startup, Joining, Participating}
+use Rattle.station.specs.declared.Station.{Station}
 use Rattle.boundary_core.specs.declared.Core.{Core}
 
 -- A number that is no phase's counts as off.

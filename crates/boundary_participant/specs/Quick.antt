@@ -21,7 +21,9 @@ use Rattle.station.specs.Rules.Ticking.{tickOf, later}
 use Rattle.station.specs.Rules.Token.{takes}
 use Rattle.station.specs.Rules.Waits.{watchTicks, longestWatch}
 use Rattle.station.specs.declared.Asked.the-variants.{Octets}
-use Rattle.station.specs.Types.{Fields, Read, Members, Participating, Gathering}
+use Rattle.station.specs.Types.{Fields, Read, Members}
+use Rattle.station.specs.declared.Phase.the-variants.{Participating}
+use Rattle.station.specs.declared.Gathering.{Gathering}
 use Rattle.station.specs.declared.Ticked.the-variants.{Done}
 use Rattle.frame_writing.specs.Writing.{wholeLength, outputOf}
 use Rattle.boundary_core.specs.Crossing.{stationOf, coreOf, isIn}

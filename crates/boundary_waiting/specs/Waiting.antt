@@ -4,7 +4,8 @@ use Rattle.laws.specs.Usual.{Bool, cond, not, _&&_, _||_, ℕ, eqb, leb}
 use Rattle.station.specs.Rules.Answers.{phaseNumber}
 use Rattle.station.specs.Rules.Ticking.{later, waitEnds, waitedThen}
 use Rattle.station.specs.Rules.Waits.{detectionWait, acceptanceTime, listeningTime}
-use Rattle.station.specs.Types.{Ticks, Listening, Startup, Joining}
+use Rattle.units.specs.declared.Ticks.{Ticks}
+use Rattle.station.specs.declared.Phase.the-variants.{Listening, Startup, Joining}
 use Rattle.boundary_core.specs.Crossing.{isIn}
 use Rattle.boundary_core.specs.declared.Core.{Core}
 

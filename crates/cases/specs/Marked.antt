@@ -13,7 +13,10 @@ use Rattle.settle_run.specs.Run.{runFrom}
 use Rattle.station.specs.Rules.Starting.{Switching, startOf}
 use Rattle.station.specs.Rules.State.{never}
 use Rattle.station.specs.Rules.Token.{viewAfter}
-use Rattle.station.specs.Types.{Areas, Part, Code, Read, Members, Settings, Station, Switched}
+use Rattle.station.specs.Types.{Areas, Part, Code, Read, Members}
+use Rattle.station.specs.declared.Settings.{Settings}
+use Rattle.station.specs.declared.Station.{Station}
+use Rattle.station.specs.declared.Switched.{Switched}
 use Rattle.station.specs.declared.Switched.the-variants as switches
 use Rattle.text.specs.Decimal.{decimalAt}
 use Rattle.frame_writing.specs.Writing.{noAreas, noWatch, fixedFor, headerOf, frameOf}

@@ -21,7 +21,14 @@ use Rattle.station.specs.Rules.Ticking.{tickOf}
 use Rattle.station.specs.declared.Asked.the-variants as asked
 use Rattle.station.specs.declared.Heard.the-variants as heard
 use Rattle.station.specs.declared.Switched.the-variants as switched
-use Rattle.station.specs.Types.{Refusal, Members, Phase, Off, Listening, Startup, Joining, Participating, Station, Switched, Ticked, Heard, Asked}
+use Rattle.station.specs.Types.{Refusal, Members}
+use Rattle.station.specs.declared.Phase.{Phase}
+use Rattle.station.specs.declared.Phase.the-variants.{Off, Listening, Startup, Joining, Participating}
+use Rattle.station.specs.declared.Station.{Station}
+use Rattle.station.specs.declared.Switched.{Switched}
+use Rattle.station.specs.declared.Ticked.{Ticked}
+use Rattle.station.specs.declared.Heard.{Heard}
+use Rattle.station.specs.declared.Asked.{Asked}
 use Rattle.station.specs.declared.Ticked.the-variants as ticked
 use Rattle.delivered.specs.Boxes.{Box, stationAt, answerOf, Done}
 

@@ -16,7 +16,8 @@ use Rattle.settling.specs.Steps.{afterAll, EachFinds}
 use Rattle.station.specs.Rules.Asking.{askOf}
 use Rattle.station.specs.Rules.Calls.{Call, tick, hear, ask, after}
 use Rattle.station.specs.declared.Asked.the-variants as answers
-use Rattle.station.specs.Types.{Station, Asked}
+use Rattle.station.specs.declared.Station.{Station}
+use Rattle.station.specs.declared.Asked.{Asked}
 use Rattle.delivered.specs.Boxes.{Box, stationAt, Done}
 use Rattle.delivered.specs.Refusals.{left-is}
 

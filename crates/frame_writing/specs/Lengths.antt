@@ -4,15 +4,11 @@ use lib.ListN.{length-append}
 use lib.Seq.{length-take-le}
 use Rattle.frame.specs.declared.Fields.{Fields}
 use Rattle.frame_reading.specs.Reading.{dataSize}
-use Rattle.frame_writing.specs.Writing.{fixed, frontOf, backOf, headerOf, frameOf, wholeLength}
+use Rattle.frame_writing.specs.Writing.{fixed, frontOf, headerOf, frameOf, wholeLength}
 
 pub length-front : (fields : Fields) → length (frontOf fields) ≡ 16
 unfolding frontOf
 length-front fields = refl
-
-pub length-back : (fields : Fields) → length (backOf fields) ≡ 24
-unfolding backOf
-length-back fields = refl
 
 pub length-header : (fields : Fields) → length (headerOf fields) ≡ 64
 unfolding headerOf

@@ -2,7 +2,10 @@
 use Rattle.laws.specs.Usual.{_≡_, refl, cond, not, ℕ, eqb}
 use Rattle.frame.specs.Codes.{isToken}
 use Rattle.station.specs.Rules.Token.{takes, viewHeard, outcomeOf}
-use Rattle.station.specs.Types.{Fields, Station, Data, Token}
+use Rattle.frame.specs.declared.Fields.{Fields}
+use Rattle.station.specs.declared.Station.{Station}
+use Rattle.station.specs.declared.Data.{Data}
+use Rattle.station.specs.declared.Token.{Token}
 use Rattle.station.specs.declared.Token.the-variants.{None, PassedOn, OursNow, RivalPassedOver, RivalWon}
 
 abbrev pub outcomeBy : ℕ → ℕ → Fields → Data → Token

@@ -7,7 +7,8 @@ use Rattle.frame_round_trip.specs.Sent.{blockFields, requestFields}
 use Rattle.station.specs.Rules.Calls.{Call, start, tick, hear, ask}
 use Rattle.station.specs.Panel.History.{history, stateAfter}
 use Rattle.station.specs.Rules.State.{never}
-use Rattle.station.specs.Types.{Milliseconds, Fields, Settings}
+use Rattle.station.specs.Types.{Milliseconds, Fields}
+use Rattle.station.specs.declared.Settings.{Settings}
 use Rattle.frame_writing.specs.Writing.{noAreas, frameOf, headerOf, frontOf, backOf, fixedFor}
 use Rattle.misses.specs.MissHistory.{missesSaid, endsThird}
 use Rattle.misses.specs.WatchHistory.{watchRun}

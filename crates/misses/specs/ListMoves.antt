@@ -20,7 +20,10 @@ use Rattle.station.specs.Rules.State.{isParticipating, fresh, isOff, stopped}
 use Rattle.station.specs.Outcomes.SwitchCases.{switched-to, start-cases, stop-cases}
 use Rattle.station.specs.Outcomes.TickCases as on-tick
 use Rattle.station.specs.Rules.Ticking.{Ticking}
-use Rattle.station.specs.Types.{Fields, Code, Read, Phase, Off, Listening, Startup, Joining, Participating, Station}
+use Rattle.station.specs.Types.{Fields, Code, Read}
+use Rattle.station.specs.declared.Phase.{Phase}
+use Rattle.station.specs.declared.Phase.the-variants.{Off, Listening, Startup, Joining, Participating}
+use Rattle.station.specs.declared.Station.{Station}
 use Rattle.station.specs.declared.Switched.the-variants.{Done}
 use Rattle.frame_writing.specs.Writing.{noAreas}
 use Rattle.station.specs.Rules.Asking.{Asking}

@@ -10,7 +10,10 @@ use Rattle.station.specs.Rules.Calls.{Call, start, stop, tick, hear, ask, Verdi
 use Rattle.station.specs.Panel.History.{Step, stepOf, history, stateAfter, participates, isTick}
 use Rattle.station.specs.Rules.State.{never}
 use Rattle.station.specs.Rules.Ticking.{watchEnds}
-use Rattle.station.specs.Types.{Fields, Code, Read, Frame, Refused, Phase, Off, Listening, Startup, Joining, Participating, Station}
+use Rattle.station.specs.Types.{Fields, Code, Read, Frame, Refused}
+use Rattle.station.specs.declared.Phase.{Phase}
+use Rattle.station.specs.declared.Phase.the-variants.{Off, Listening, Startup, Joining, Participating}
+use Rattle.station.specs.declared.Station.{Station}
 
 abbrev pub isRequest : Code → Bool
 isRequest Token = false

@@ -73,7 +73,12 @@ use Rattle.station.specs.Memory.TurnWhole.{Lending, turn-whole}
 use Rattle.station.specs.Memory.TurnWritten.{Turned, turn-written}
 use Rattle.station.specs.declared.Asked.the-variants.{Octets}
 use Rattle.station.specs.declared.Heard.the-variants as heard
-use Rattle.station.specs.Types.{Areas, Part, Fields, Refusal, Frame, Phase, Off, Listening, Startup, Joining, Participating, Station, Written, Token}
+use Rattle.station.specs.Types.{Areas, Part, Fields, Refusal, Frame}
+use Rattle.station.specs.declared.Phase.{Phase}
+use Rattle.station.specs.declared.Phase.the-variants.{Off, Listening, Startup, Joining, Participating}
+use Rattle.station.specs.declared.Station.{Station}
+use Rattle.station.specs.declared.Data.the-variants.{Written}
+use Rattle.station.specs.declared.Token.{Token}
 use Rattle.settle_views.specs.Views.{stationsOf}
 use Rattle.settle_views.specs.declared.Ring.{Ring}
 use Rattle.frame_writing.specs.Writing.{frameOf, fixed}

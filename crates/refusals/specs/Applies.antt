@@ -14,7 +14,8 @@ use Rattle.station.specs.Rules.Asking.{dueIn}
 use Rattle.station.specs.Rules.Calls.{Call, start, stop, tick, hear, ask, Verdict, refusedBy, unrefused}
 use Rattle.station.specs.Rules.Hearing.{knows}
 use Rattle.station.specs.Rules.State.{isOff, isParticipating}
-use Rattle.station.specs.Types.{Fields, Refusal, Station}
+use Rattle.station.specs.Types.{Fields, Refusal}
+use Rattle.station.specs.declared.Station.{Station}
 
 -- the fields as they stand in the octets heard. An octet that is not there reads 0. A code that is none of the four is none of 65000, 65001
 -- and 65002, which are all that 5, 7, 8 and 9 ask of a code.

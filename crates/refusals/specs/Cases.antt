@@ -9,7 +9,10 @@ use Rattle.frame_reading.specs.Reading.{fieldsOf}
 use Rattle.frame_round_trip.specs.Sent.{blockFields, requestFields, triggerFields}
 use Rattle.station.specs.Rules.Calls.{Call, start, stop, tick, hear, ask, Verdict, refusedBy, unrefused, verdict, after}
 use Rattle.station.specs.Rules.State.{fresh, stopped, begun}
-use Rattle.station.specs.Types.{Milliseconds, Areas, Settings, Listening, Station}
+use Rattle.station.specs.Types.{Milliseconds, Areas}
+use Rattle.station.specs.declared.Settings.{Settings}
+use Rattle.station.specs.declared.Phase.the-variants.{Listening}
+use Rattle.station.specs.declared.Station.{Station}
 use Rattle.frame_writing.specs.Writing.{noAreas, frameOf, headerOf, frontOf, backOf, fixedFor}
 use Rattle.refusals.specs.Applies.{firstApplying}
 

@@ -10,7 +10,8 @@ use Rattle.station.specs.Rules.Calls.{Call, start, stop, tick, hear, ask, Verdi
 use Rattle.station.specs.Rules.Hearing.{Hearing, lentRight, isTaken, isStranger, bodyHeard, headerHeard}
 use Rattle.station.specs.RefusedLeft.{accepted-unrefused}
 use Rattle.station.specs.Rules.Starting.{Switching, need}
-use Rattle.station.specs.Types.{Refusal, Read, Frame, Refused, Station}
+use Rattle.station.specs.Types.{Refusal, Read, Frame, Refused}
+use Rattle.station.specs.declared.Station.{Station}
 use Rattle.refusals.specs.Applies.{firstApplying}
 
 -- a choice by a test that has parts is choices by its parts

@@ -3,7 +3,8 @@ use Rattle.laws.specs.Usual.{_≡_, refl, sym, ap, _∙_, Bool, true, false, co
 use mathlib.Core.List.{List·Memᴰ, List·Memᴰ·head, List·Memᴰ·tail}
 use Rattle.frame.specs.Refusals.{order}
 use Rattle.station.specs.Rules.Calls.{Call, refusedBy, unrefused, verdict}
-use Rattle.station.specs.Types.{Refusal, Station}
+use Rattle.frame.specs.declared.Refusal.{Refusal}
+use Rattle.station.specs.declared.Station.{Station}
 use Rattle.refusals.specs.Applies.{applies, firstOf}
 use Rattle.refusals.specs.FirstApplies.{first-applies}
 

@@ -6,7 +6,8 @@ use borrow.Author.Tests.{lt-leb, le-leb}
 use Rattle.frame.specs.declared.Refusal.the-variants.{Cut}
 use Rattle.frame_reading.specs.Reading.{readHeaderOf}
 use Rattle.station.specs.Rules.Hearing.{hearOf}
-use Rattle.station.specs.Types.{Refused, Station}
+use Rattle.frame_reading.specs.declared.Read.the-variants.{Refused}
+use Rattle.station.specs.declared.Station.{Station}
 
 -- more than 1120 octets are refused by number 1
 cut-off : (octets : List ℕ) → 1120 < length octets → readHeaderOf octets ≡ Refused Cut

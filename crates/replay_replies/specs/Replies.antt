@@ -6,7 +6,9 @@ use Rattle.replay_reply_parts.specs.Lines.{ended, spaced}
 use Rattle.replay_reply_words.specs.Answers.{doneText, offText, refusedText}
 use Rattle.station.specs.declared.Asked.the-variants as asked
 use Rattle.station.specs.declared.Heard.the-variants as heard
-use Rattle.station.specs.Types.{Switched, Heard, Asked}
+use Rattle.station.specs.declared.Switched.{Switched}
+use Rattle.station.specs.declared.Heard.{Heard}
+use Rattle.station.specs.declared.Asked.{Asked}
 use Rattle.station.specs.declared.Switched.the-variants as switched
 
 -- `start` and `stop`

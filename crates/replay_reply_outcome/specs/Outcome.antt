@@ -2,7 +2,9 @@
 use Rattle.laws.specs.Usual.{List, [], _∷_, ℕ}
 use Rattle.replay_reply_parts.specs.Lines.{ended, spaced}
 use Rattle.station.specs.Rules.Answers.{dataOf}
-use Rattle.station.specs.Types.{Data, Kept, Written, Dropped, Token}
+use Rattle.station.specs.declared.Data.{Data}
+use Rattle.station.specs.declared.Data.the-variants.{Kept, Written, Dropped}
+use Rattle.station.specs.declared.Token.{Token}
 use Rattle.station.specs.declared.Token.the-variants.{None, PassedOn, OursNow, RivalPassedOver, RivalWon}
 
 -- "none", "passed-on", "ours-now", "rival-passed-over", "rival-won"

@@ -1,6 +1,7 @@
 -- How long words can be. Assumes nothing.
 use Rattle.laws.specs.Usual.{_≤_, arith, length}
-use Rattle.station.specs.Types.{Data, Kept, Written, Dropped}
+use Rattle.station.specs.declared.Data.{Data}
+use Rattle.station.specs.declared.Data.the-variants.{Kept, Written, Dropped}
 use Rattle.replay_reply_outcome.specs.Outcome.{dataWord}
 
 pub data-length : (outcome : Data) → length (dataWord outcome) ≤ 7

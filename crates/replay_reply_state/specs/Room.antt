@@ -1,7 +1,9 @@
 -- How long the parts of a state's line can be. Assumes nothing.
 use Rattle.laws.specs.Usual.{Bool, true, false, cond, List, [], _∷_, _++_, ℕ, suc, _*_, _≤_, arith, length}
 use lib.ListN.{length-append}
-use Rattle.station.specs.Types.{Entry, Phase, Off, Listening, Startup, Joining, Participating}
+use Rattle.members.specs.declared.Entry.{Entry}
+use Rattle.station.specs.declared.Phase.{Phase}
+use Rattle.station.specs.declared.Phase.the-variants.{Off, Listening, Startup, Joining, Participating}
 use Rattle.text.specs.Decimal.{decimalOf}
 use Rattle.text.specs.Digits.{at-most}
 use Rattle.text.specs.Lines.{space, comma}

@@ -1,7 +1,10 @@
 -- The line that shows a station's state. Numbers are in decimal with no leading zeros.
 use Rattle.laws.specs.Usual.{cond, List, [], _∷_, _++_, ℕ, suc}
 use Rattle.replay_reply_parts.specs.Lines.{ended}
-use Rattle.station.specs.Types.{Entry, Phase, Off, Listening, Startup, Joining, Participating, Station}
+use Rattle.members.specs.declared.Entry.{Entry}
+use Rattle.station.specs.declared.Phase.{Phase}
+use Rattle.station.specs.declared.Phase.the-variants.{Off, Listening, Startup, Joining, Participating}
+use Rattle.station.specs.declared.Station.{Station}
 use Rattle.text.specs.Decimal.{decimalOf}
 use Rattle.text.specs.Lines.{space, comma}
 

@@ -2,7 +2,8 @@
 use Rattle.laws.specs.Usual.{List, _∷_, _++_, ℕ}
 use Rattle.frame.specs.Refusals.{numberOf}
 use Rattle.replay_reply_parts.specs.Lines.{ended}
-use Rattle.station.specs.Types.{Refusal, Ticked}
+use Rattle.frame.specs.declared.Refusal.{Refusal}
+use Rattle.station.specs.declared.Ticked.{Ticked}
 use Rattle.station.specs.declared.Ticked.the-variants as ticked
 use Rattle.text.specs.Decimal.{decimalOf}
 use Rattle.text.specs.Lines.{space}

@@ -1,7 +1,7 @@
 -- The words of a line, and words as numbers. Words in quotes are those of the table of commands.
 use Rattle.laws.specs.Usual.{Bool, true, false, _&&_, List, [], _∷_, ℕ, length, getD, eqb}
 use Rattle.text.specs.Lines.{space}
-use Rattle.text_reading.specs.Parts.{partsOf, partsBehind, endOf}
+use Rattle.text_reading.specs.Parts.{partsBehind, endOf}
 use Rattle.text_reading.specs.Values.{decimalIn, numberOr}
 use Rattle.replay_words.specs.declared.Number.{Number}
 
@@ -13,11 +13,6 @@ begins (letter ∷ word) (octet ∷ line) = eqb octet letter && begins word line
 
 abbrev pub same : List ℕ → List ℕ → Bool
 same word line = eqb (length line) (length word) && begins word line
-
--- "One space between words, none elsewhere": the words of a line, parted by each of its spaces. A second space beside another, and one at
--- an end of the line, leaves an empty word, which is neither a number nor spells octets.
-abbrev pub wordsOf : List ℕ → List (List ℕ)
-wordsOf line = partsOf space line
 
 -- the words behind the space at a place of the line: none where the line has ended
 abbrev pub wordsBehind : List ℕ → ℕ → List (List ℕ)

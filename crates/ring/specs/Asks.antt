@@ -14,7 +14,10 @@ use Rattle.station.specs.Rules.Data.{gathered}
 use Rattle.station.specs.Rules.State.{holds}
 use Rattle.station.specs.Rules.Token.{viewHeard, viewAfter, restarted}
 use Rattle.station.specs.declared.Asked.the-variants as answers
-use Rattle.station.specs.Types.{Fields, Settings, Station, Asked}
+use Rattle.frame.specs.declared.Fields.{Fields}
+use Rattle.station.specs.declared.Settings.{Settings}
+use Rattle.station.specs.declared.Station.{Station}
+use Rattle.station.specs.declared.Asked.{Asked}
 use Rattle.frame_writing.specs.Writing.{wholeLength}
 use Rattle.ring.specs.Counts.{tokenTo, givenBy, gives, Does, passed, nothing}
 use Rattle.ring.specs.Events.{Stations, Lent, Event, asked, handed, afterEvent, CanCome}

@@ -15,7 +15,10 @@ use Rattle.station.specs.Rules.Calls.{Call, start, tick, hear, ask, after, unre
 use Rattle.station.specs.Panel.History.{stateAfter}
 use Rattle.station.specs.States.Reachable.{Reachable, unstarted, called, TypedSettings}
 use Rattle.station.specs.Rules.State.{never}
-use Rattle.station.specs.Types.{Milliseconds, Fields, Settings, Participating, Station}
+use Rattle.station.specs.Types.{Milliseconds, Fields}
+use Rattle.station.specs.declared.Settings.{Settings}
+use Rattle.station.specs.declared.Phase.the-variants.{Participating}
+use Rattle.station.specs.declared.Station.{Station}
 use Rattle.frame_writing.specs.Writing.{noAreas, frameOf, outputOf, headerOf, frontOf, backOf, fixedFor}
 use Rattle.ring.specs.Demand.{LastCall, sent, heard}
 
@@ -195,7 +198,7 @@ two-last = sent (two (tokenOctets 3 2)) large large (replicate 1088 0) 64 (two-r
 
 -- stations 1 and 3 hear it
 pub one-heard : (last : List ℕ) → small last ≡ true → verdict (one last) (hears passed) ≡ unrefused → LastCall passed (after (one last) (hears passed))
-one-heard last s unrefused = heard (one last) large large (one-reached last s) (small-at passed passed-small) unrefused
+one-heard last s accepted = heard (one last) large large (one-reached last s) (small-at passed passed-small) accepted
 
 pub three-heard : (last : List ℕ) → small last ≡ true → verdict (three last) (hears passed) ≡ unrefused → LastCall passed (after (three last) (hears passed))
-three-heard last s unrefused = heard (three last) large large (three-reached last s) (small-at passed passed-small) unrefused
+three-heard last s accepted = heard (three last) large large (three-reached last s) (small-at passed passed-small) accepted

@@ -6,7 +6,8 @@ use Rattle.frame_reading.specs.Reading.{readOf}
 use Rattle.frame_reading.specs.declared.Read.the-variants as read
 use Rattle.settling.specs.Ring.{_∈_, next, viewAfterPass}
 use Rattle.station.specs.Rules.Asking.{askOf}
-use Rattle.station.specs.Types.{Read, Asked}
+use Rattle.frame_reading.specs.declared.Read.{Read}
+use Rattle.station.specs.declared.Asked.{Asked}
 use Rattle.station.specs.declared.Asked.the-variants as answers
 use Rattle.ring.specs.Events.{Stations, Lent, Event, asked, ticked, stray, afterEvent, endsWatch}
 

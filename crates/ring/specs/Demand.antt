@@ -9,7 +9,9 @@ use Rattle.station.specs.Rules.Asking.{askOf}
 use Rattle.station.specs.Rules.Calls.{after, hear, ask, unrefused, verdict}
 use Rattle.station.specs.States.Reachable.{Reachable, Typed}
 use Rattle.station.specs.declared.Asked.the-variants.{Octets}
-use Rattle.station.specs.Types.{Fields, Frame, Participating, Station}
+use Rattle.station.specs.Types.{Fields, Frame}
+use Rattle.station.specs.declared.Phase.the-variants.{Participating}
+use Rattle.station.specs.declared.Station.{Station}
 use Rattle.ring.specs.Counts.{passes, silences, given, Does}
 use Rattle.ring.specs.Events.{Stations, Event, afterEvent, AllName}
 

@@ -19,7 +19,7 @@ use Rattle.ring.specs.Steps.{Ok}
 -- a station that was brought there by calls is one that calls can leave
 pub left-by-calls : {octets : List ℕ} {station : Station} → LastCall octets station → Reachable station
 left-by-calls (sent before memory turn output count reached answer written) = called (ask memory turn output) reached tt
-left-by-calls {octets} (heard before memory assembly reached typed unrefused) = called (hear octets memory assembly) reached typed
+left-by-calls {octets} (heard before memory assembly reached typed accepted) = called (hear octets memory assembly) reached typed
 
 module _ {numbers : List ℕ} {stations : Stations} (ring : Disturbed numbers stations) where
   what-holds : (n : ℕ) → n ∈ numbers → Sound (stations n)

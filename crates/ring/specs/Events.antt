@@ -11,7 +11,10 @@ use Rattle.station.specs.Rules.Hearing as hearing
 use Rattle.station.specs.Rules.State.{isParticipating, holds}
 use Rattle.station.specs.Rules.Ticking.{tickOf, watchEnds}
 use Rattle.station.specs.declared.Asked.the-variants as answers
-use Rattle.station.specs.Types.{Fields, Refusal, Frame, Settings, Station, Asked}
+use Rattle.station.specs.Types.{Fields, Refusal, Frame}
+use Rattle.station.specs.declared.Settings.{Settings}
+use Rattle.station.specs.declared.Station.{Station}
+use Rattle.station.specs.declared.Asked.{Asked}
 
 -- the stations of a ring, by their numbers
 abbrev pub Stations : Type 0

@@ -9,7 +9,8 @@ use Rattle.settling.specs.Ring.{_∈_}
 use Rattle.station.specs.Frames.FrameAccepted as heard
 use Rattle.station.specs.Rules.Data.{gathered}
 use Rattle.station.specs.Rules.Hearing.{knows, lentRight, participantHeard, hearOf}
-use Rattle.station.specs.Types.{Fields, Frame, Station}
+use Rattle.station.specs.Types.{Fields, Frame}
+use Rattle.station.specs.declared.Station.{Station}
 use Rattle.ring.specs.Member.{InRing, listed}
 
 module _ {numbers : List ℕ} {number : ℕ} {station : Station} (in-ring : InRing numbers number station) where

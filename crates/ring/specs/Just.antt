@@ -9,7 +9,10 @@ use Rattle.station.specs.Rules.Calls.{unrefused, refusedBy, heardVerdict}
 use Rattle.station.specs.Outcomes.HearCases as on-hearing
 use Rattle.station.specs.Rules.State.{isParticipating}
 use Rattle.station.specs.declared.Asked.the-variants.{Octets}
-use Rattle.station.specs.Types.{Fields, Code, Refusal, Frame, Phase, Participating, Station}
+use Rattle.station.specs.Types.{Fields, Code, Refusal, Frame}
+use Rattle.station.specs.declared.Phase.{Phase}
+use Rattle.station.specs.declared.Phase.the-variants.{Participating}
+use Rattle.station.specs.declared.Station.{Station}
 use Rattle.station.specs.Rules.Asking.{Asking}
 use Rattle.station.specs.Rules.Hearing.{Hearing}
 use Rattle.ring.specs.Demand.{LastCall, sent, heard}
@@ -60,5 +63,5 @@ module _ {station : Station} {octets memory assembly : List ℕ} (frame : Fields
 pub just-zero : {octets : List ℕ} {station : Station} (frame : Fields) → readOf octets ≡ Frame frame → isToken (frame .code) ≡ true → LastCall octets station →
     station .phase ≡ Participating → station .elapsed .0 ≡ 0
 just-zero frame read token (sent before memory turn output count reached answer written) p = asked-zero (on-asking.ask-cases before memory turn output) answer p
-just-zero {octets} frame read token (heard before memory assembly reached typed unrefused) p =
-    heard-zero frame read token (on-hearing.hear-cases before octets memory assembly) unrefused p
+just-zero {octets} frame read token (heard before memory assembly reached typed accepted) p =
+    heard-zero frame read token (on-hearing.hear-cases before octets memory assembly) accepted p

@@ -7,7 +7,10 @@ use Rattle.members.specs.Members.{entryOf, isListed, withEntry, ringOf, nextAft
 use Rattle.settling.specs.Ring.{_∈_, next}
 use Rattle.station.specs.Rules.Asking.{nextBlock, isLast, nextStation, blockSent}
 use Rattle.station.specs.Rules.Token.{restarted}
-use Rattle.station.specs.Types.{Members, Panel, Participating, Gathering, Station}
+use Rattle.station.specs.Types.{Members, Panel}
+use Rattle.station.specs.declared.Phase.the-variants.{Participating}
+use Rattle.station.specs.declared.Gathering.{Gathering}
+use Rattle.station.specs.declared.Station.{Station}
 use Rattle.ring.specs.Lists.{ring-kept, other-listed}
 
 -- a station of the ring, whose number is `number`

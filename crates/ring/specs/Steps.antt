@@ -15,7 +15,8 @@ use Rattle.station.specs.Rules.Asking as asking
 use Rattle.station.specs.Rules.State.{holds}
 use Rattle.station.specs.Rules.Token.{viewHeard, viewAfter}
 use Rattle.station.specs.declared.Asked.the-variants as answers
-use Rattle.station.specs.Types.{Fields, Frame, Station}
+use Rattle.station.specs.Types.{Fields, Frame}
+use Rattle.station.specs.declared.Station.{Station}
 use Rattle.ring.specs.Events.{Stations}
 use Rattle.ring.specs.Member.{InRing, next-same}
 

@@ -14,7 +14,8 @@ use Rattle.station.specs.Outcomes.HearCases as on-hearing
 use Rattle.station.specs.Rules.Hearing.{Hearing, requested}
 use Rattle.station.specs.RefusedLeft.{Spared, same, turnedOff, refused-left}
 use Rattle.station.specs.Rules.State.{isParticipating}
-use Rattle.station.specs.Types.{Fields, Frame, Station}
+use Rattle.station.specs.Types.{Fields, Frame}
+use Rattle.station.specs.declared.Station.{Station}
 use Rattle.ring.specs.Counts.{Does, nothing}
 use Rattle.ring.specs.Events.{Stations, stray, afterEvent, Stray, refused, starts, harmless, CanCome}
 use Rattle.ring.specs.Lists.{ring-kept}

@@ -7,7 +7,8 @@ use Rattle.settling.specs.First.{FirstAgreement}
 use Rattle.settling.specs.Ring.{_∈_}
 use Rattle.station.specs.Rules.Calls.{after}
 use Rattle.station.specs.Rules.State.{holds}
-use Rattle.station.specs.Types.{Participating, Station}
+use Rattle.station.specs.declared.Phase.the-variants.{Participating}
+use Rattle.station.specs.declared.Station.{Station}
 use Rattle.frame_writing.specs.Writing.{headerOf, frontOf, backOf, fixedFor}
 use Rattle.ring.specs.Bringing.{large, tokenOctets, tokenFields, hears, asks, one, two, three, one-heard, two-last, three-heard, numbers, ascending, at-1, at-3, each, passed}
 use Rattle.ring.specs.Counts.{passes, silences, given}

@@ -1,4 +1,5 @@
--- The types that the rules and the theorems speak of, handed on from where they are declared, so that one line brings them.
+-- The types that the rules and the theorems speak of, handed on from where they are declared, so that one line brings them. (Another crate takes
+-- those of `station` itself from `declared`: a crate hands on to others only what it has from others.)
 pub use Rattle.units.specs.declared.Ticks.{Ticks}
 pub use Rattle.units.specs.declared.Milliseconds.{Milliseconds}
 pub use Rattle.area.specs.declared.Areas.{Areas}

@@ -7,7 +7,10 @@ use Rattle.frame_reading.specs.Reading.{dataSize}
 use Rattle.station.specs.Rules.Asking.{isPlaced, dueIn}
 use Rattle.station.specs.Rules.Asking.{nextBlock, dueFields, turnAfter, sentIn}
 use Rattle.station.specs.Rules.State.{holds}
-use Rattle.station.specs.Types.{Fields, Phase, Station, Asked}
+use Rattle.frame.specs.declared.Fields.{Fields}
+use Rattle.station.specs.declared.Phase.{Phase}
+use Rattle.station.specs.declared.Station.{Station}
+use Rattle.station.specs.declared.Asked.{Asked}
 use Rattle.frame_writing.specs.Writing.{wholeLength, outputOf}
 use Rattle.asking.proofs.send.Statement.{statement}
 use Rattle.asking.proofs.send.Tie as tie

@@ -1,7 +1,8 @@
 -- `hearing_entering::member_hears` meets its contract.
 use Rattle.laws.specs.Usual.{sym, ap, _∙_, needs}
 use Rattle.station.specs.Rules.Hearing.{enters}
-use Rattle.station.specs.Types.{Code, Participating}
+use Rattle.frame.specs.declared.Code.{Code}
+use Rattle.station.specs.declared.Phase.the-variants.{Participating}
 use Rattle.hearing_entering.proofs.member_hears.Statement.{statement}
 use Rattle.hearing_entering.proofs.member_hears.Tie as tie
 

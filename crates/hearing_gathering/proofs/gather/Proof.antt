@@ -6,7 +6,8 @@ use Rattle.copying.specs.Pasted.{pasted}
 use Rattle.laws.specs.Tests.{first, second}
 use Rattle.station.specs.Rules.Data.{Gathered, sameAreas, isNext, turnWritten, storing}
 use Rattle.station.specs.Rules.State.{nothing}
-use Rattle.station.specs.Types.{Areas, Fields, Kept, Written}
+use Rattle.station.specs.Types.{Areas, Fields}
+use Rattle.station.specs.declared.Data.the-variants.{Kept, Written}
 use Rattle.hearing_gathering.proofs.gather.Statement.{statement}
 use Rattle.hearing_gathering.proofs.gather.Tie as tie
 

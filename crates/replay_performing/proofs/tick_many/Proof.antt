@@ -2,7 +2,8 @@
 use Rattle.laws.specs.Usual.{_≡_, refl, ap, ap₂, _∙_, ℕ, suc, _-_, arith}
 use Rattle.replay_performing.specs.Replaying.{tickedOn}
 use Rattle.station.specs.Rules.Ticking.{Ticking}
-use Rattle.station.specs.Types.{Station, Ticked}
+use Rattle.station.specs.declared.Station.{Station}
+use Rattle.station.specs.declared.Ticked.{Ticked}
 use Rattle.replay_performing.proofs.tick_many.Statement.{statement}
 use Rattle.replay_performing.proofs.tick_many.Tie as tie
 

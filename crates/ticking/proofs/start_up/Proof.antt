@@ -3,7 +3,9 @@ use Rattle.laws.specs.Usual.{_≡_, refl, sym, _∙_, cond, List, [], _∷_, �
 use Rattle.members.specs.Members.{isEmpty, numbersOf, smallest}
 use Rattle.station.specs.Rules.Starting.{startedUp}
 use Rattle.station.specs.Rules.State.{fresh, begun}
-use Rattle.station.specs.Types.{Members, Settings, Listening}
+use Rattle.members.specs.declared.Members.{Members}
+use Rattle.station.specs.declared.Settings.{Settings}
+use Rattle.station.specs.declared.Phase.the-variants.{Listening}
 use Rattle.ticking.proofs.start_up.Statement.{statement}
 use Rattle.ticking.proofs.start_up.Tie as tie
 
