@@ -10,44 +10,35 @@
 
 /* What a host keeps for its station from call to call. This part is what the firmware of one station needs. */
 typedef struct {
-    flnet_station station;                 /* the core, replaced by what each call gives, and the list, which the calls change in place */
+    flnet_station station;                 /* its state and its list */
     uint8_t memory[FLNET_MEMORY_OCTETS];   /* the common memory: the host writes its own areas, frames write the others */
     uint8_t assembly[FLNET_MEMORY_OCTETS]; /* lent to each hearing as the last one left it */
     uint8_t turn[FLNET_MEMORY_OCTETS];     /* lent to each asking as the last one left it */
     uint8_t output[FLNET_OUTPUT_OCTETS];   /* the frame to send */
 } host;
 
-/* Every call gives the core after it: keep it, whatever the answer is. */
-static flnet_answer keep(host *h, flnet_result result)
-{
-    h->station.core = result.core;
-    return result.answer;
-}
-
 /* Once. The host's timer then calls tick every 100 microseconds: the waits, the watch and the panel count these. */
 static flnet_answer start(host *h, flnet_settings own)
 {
-    h->station.core = flnet_new(FLNET_LIST(h->station));
-    return keep(h, flnet_start(h->station.core, FLNET_LIST(h->station), own));
+    flnet_station_new(&h->station);
+    return flnet_station_start(&h->station, own);
 }
 
 static flnet_answer tick(host *h)
 {
-    return keep(h, flnet_tick(h->station.core, FLNET_LIST(h->station)));
+    return flnet_station_tick(&h->station);
 }
 
 /* For each frame from the wire but our own, good or bad: a bad one is answered with a number that says why. */
 static flnet_answer hear(host *h, const uint8_t *octets, size_t length)
 {
-    return keep(h, flnet_hear(h->station.core, FLNET_LIST(h->station), octets, length, h->memory, sizeof h->memory, h->assembly,
-                              sizeof h->assembly));
+    return flnet_station_hear(&h->station, octets, length, h->memory, sizeof h->memory, h->assembly, sizeof h->assembly);
 }
 
 /* After each tick and each frame. Where a frame is due, it is in the output, to be sent at once; else the answer has 0 octets. */
 static flnet_answer ask(host *h)
 {
-    return keep(h, flnet_ask(h->station.core, FLNET_LIST(h->station), h->memory, sizeof h->memory, h->turn, sizeof h->turn, h->output,
-                             sizeof h->output));
+    return flnet_station_ask(&h->station, h->memory, sizeof h->memory, h->turn, sizeof h->turn, h->output, sizeof h->output);
 }
 
 /* From here on the wire and the clock. A frame takes the wire for FRAME_TICKS. */
@@ -92,7 +83,7 @@ int main(void)
         free_at = now >= free_at && send_one(now) ? now + FRAME_TICKS : free_at;
     }
     for (int at = 0; at < STATIONS; at++) {
-        flnet_figure shown = flnet_show(hosts[at].station.core);
+        flnet_figure shown = flnet_station_show(&hosts[at].station);
         printf("station %d: panel %.*s, common memory %.24s\n", at + 1, (int)shown.length, (char *)shown.octets, (char *)hosts[at].memory);
     }
     return 0;

@@ -19,7 +19,7 @@
 #ifdef __cplusplus
 extern "C" {
 #else
-#include <assert.h>
+#include <assert.h> /* static_assert */
 #endif
 
 /* Octets of the common memory, and of the assembly and turn buffers. */
@@ -28,6 +28,23 @@ extern "C" {
 #define FLNET_OUTPUT_OCTETS 1088
 /* Ticks in a millisecond: a tick is 100 microseconds. */
 #define FLNET_TICKS_IN_MILLISECOND 10
+
+/*
+ * The waits of JEM 1479, clause 8.7, in ticks. A station that finds a ring participates after three rounds of the token and the wait for its
+ * number; one that finds none after token detection, the trigger wait and the acceptance time, at most 42,280 ticks in all.
+ */
+#define FLNET_TOKEN_DETECTION_TICKS 30000
+#define FLNET_ACCEPTANCE_TICKS 12000
+#define FLNET_TRIGGER_WAIT_TICKS(number) (40 * ((number) % 8))
+#define FLNET_NUMBER_WAIT_TICKS(number) (40 * (number))
+
+/*
+ * UDP ports (JEM 1479, appendix C), one frame a datagram, broadcast: cyclic frames, with the token or without, are received at 55000,
+ * requests and triggers at 55002; all are sent from 55003.
+ */
+#define FLNET_PORT_CYCLIC 55000
+#define FLNET_PORT_REQUEST_AND_TRIGGER 55002
+#define FLNET_PORT_FROM 55003
 
 /* Phases of a station. Any other number counts as off, and comes back as 0. */
 #define FLNET_PHASE_OFF 0
@@ -89,7 +106,7 @@ typedef struct {
 typedef struct {
     uint8_t number; /* 1 to 254 */
     flnet_areas areas;
-    uint8_t watch; /* the watch time, 1 to 255 milliseconds */
+    uint8_t watch; /* the watch time, 1 to 255 milliseconds: longer than any gap between two frames of a station's turn that a late host makes */
 } flnet_settings;
 
 /*
@@ -174,25 +191,82 @@ flnet_result flnet_start(flnet_core core, bool *listed, uint16_t *areas, uint8_t
 /* Stops a station that is not off: done, or refused with 10. */
 flnet_result flnet_stop(flnet_core core, bool *listed, uint16_t *areas, uint8_t *watch, uint8_t *misses);
 
-/* Every 100 microseconds: off or done. */
+/*
+ * Every 100 microseconds: off or done. A host that was not scheduled in time catches up: it orders what it has received by the time of its
+ * arrival, ticks up to each and hears it, ticks up to now, and only then asks. A watch time has to be longer than the host can be late, or
+ * the others take the token from it.
+ */
 flnet_result flnet_tick(flnet_core core, bool *listed, uint16_t *areas, uint8_t *watch, uint8_t *misses);
 
 /*
- * A frame from the wire: off, done, cyclic, or refused with any number but 10. A finished turn is written to its source's areas of the
+ * A frame from the wire, but not one of ours that the network gives back: a station that hears its own number before it participates is
+ * turned off (number 6). Off, done, cyclic, or refused with any number but 10. A finished turn is written to its source's areas of the
  * common memory. A block that is kept or finishes a turn is stored in the assembly buffer, which the host lends again as it was left.
  */
 flnet_result flnet_hear(flnet_core core, bool *listed, uint16_t *areas, uint8_t *watch, uint8_t *misses, const uint8_t *octets, size_t octets_length,
                         uint8_t *memory, size_t memory_length, uint8_t *assembly, size_t assembly_length);
 
 /*
- * Asks for the frame that is due: frame, or refused with 11 or 10. The frame stands at the front of the output. At the first block of a
- * turn our areas are copied from the common memory to the front of the turn buffer, which the host lends again as it was left.
+ * Asks for the frame that is due, after each tick and each frame heard: frame, or refused with 11 or 10. Send it before the next call. Ask
+ * again after a frame without the token, but only as fast as frames go out: a station alone in its list always has a frame due, so a loop
+ * that asks until it is refused would never end. The frame stands at the front of the output. At the first block of a
+ * turn our areas are copied from the common memory to the front of the turn buffer, which the host lends again as it was left. The host writes its own areas of the common memory, and nothing else
+ * of it, between calls; what it writes during a turn goes out with the next one.
  */
 flnet_result flnet_ask(flnet_core core, bool *listed, uint16_t *areas, uint8_t *watch, uint8_t *misses, const uint8_t *memory, size_t memory_length,
                        uint8_t *turn, size_t turn_length, uint8_t *output, size_t output_length);
 
 /* What the front panel shows. */
 flnet_figure flnet_show(flnet_core core);
+
+/*
+ * The same calls on a station that the caller keeps: each puts the core that it gets back into the station, whatever the answer.
+ */
+
+static inline void flnet_station_new(flnet_station *station)
+{
+    station->core = flnet_new(FLNET_LIST(*station));
+}
+
+static inline flnet_answer flnet_station_keep(flnet_station *station, flnet_result result)
+{
+    station->core = result.core;
+    return result.answer;
+}
+
+static inline flnet_answer flnet_station_start(flnet_station *station, flnet_settings own)
+{
+    return flnet_station_keep(station, flnet_start(station->core, FLNET_LIST(*station), own));
+}
+
+static inline flnet_answer flnet_station_stop(flnet_station *station)
+{
+    return flnet_station_keep(station, flnet_stop(station->core, FLNET_LIST(*station)));
+}
+
+static inline flnet_answer flnet_station_tick(flnet_station *station)
+{
+    return flnet_station_keep(station, flnet_tick(station->core, FLNET_LIST(*station)));
+}
+
+static inline flnet_answer flnet_station_hear(flnet_station *station, const uint8_t *octets, size_t octets_length, uint8_t *memory,
+                                              size_t memory_length, uint8_t *assembly, size_t assembly_length)
+{
+    return flnet_station_keep(station, flnet_hear(station->core, FLNET_LIST(*station), octets, octets_length, memory, memory_length, assembly,
+                                                  assembly_length));
+}
+
+static inline flnet_answer flnet_station_ask(flnet_station *station, const uint8_t *memory, size_t memory_length, uint8_t *turn,
+                                             size_t turn_length, uint8_t *output, size_t output_length)
+{
+    return flnet_station_keep(station, flnet_ask(station->core, FLNET_LIST(*station), memory, memory_length, turn, turn_length, output,
+                                                 output_length));
+}
+
+static inline flnet_figure flnet_station_show(const flnet_station *station)
+{
+    return flnet_show(station->core);
+}
 
 #ifndef __cplusplus
 static_assert(sizeof(flnet_part) == 4, "flnet_part");

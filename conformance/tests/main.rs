@@ -10,6 +10,7 @@ mod example;
 mod paper;
 mod rings;
 mod rules;
+mod uncovered;
 
 fn given_seed() -> Option<u64> {
     let text = std::env::var("FLNET_SEED").ok()?;

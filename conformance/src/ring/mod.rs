@@ -119,10 +119,16 @@ impl Ring {
 
     /// Asks one station; the wire hands what it writes to each other one.
     pub fn ask(&mut self, at: usize) -> Option<Header> {
+        self.ask_past(at, None)
+    }
+
+    /// Asks one station; what it writes is lost at one of the others, and handed to the rest.
+    pub fn ask_past(&mut self, at: usize, deaf: Option<usize>) -> Option<Header> {
         let written = self.seats[at].ask()?;
         let octets = self.seats[at].answer.octets;
         let output = std::mem::take(&mut self.seats[at].output);
-        for hearer in (0..self.seats.len()).filter(|&hearer| hearer != at) {
+        let hears = |&hearer: &usize| hearer != at && Some(hearer) != deaf;
+        for hearer in (0..self.seats.len()).filter(hears) {
             self.deliver(hearer, &output[..octets]);
         }
         self.seats[at].output = output;
