@@ -186,6 +186,26 @@ fn ask_alone<E: Engine + Default>() -> impl FnMut() -> f64 {
     measurement(16_000, 1, move || assert_eq!(station.ask(), OUTPUT))
 }
 
+/// A participant that does not hold, asked after every tick or frame as a host does.
+fn ask_refused<E: Engine + Default>() -> impl FnMut() -> f64 {
+    let mut station = Host::<E>::participant(share(9, 512), &[share(2, 512)]);
+    measurement(16_000, 1, move || assert_eq!(station.ask(), 0))
+}
+
+/// A frame that is refused, 1088 octets long, at a participant.
+fn hear_refused<E: Engine + Default>(frame: Vec<u8>) -> impl FnMut() -> f64 {
+    let mut station = Host::<E>::participant(share(9, 512), &[share(2, 512)]);
+    measurement(16_000, 1, move || assert_eq!(station.hear(black_box(&frame)), 0))
+}
+
+/// A frame with another mark, and a block of a station that is not listed.
+fn refused_frames() -> (Vec<u8>, Vec<u8>) {
+    let stranger = octets(Code::Cyclic, &share(3, 512), 2, 1);
+    let mut garbage = stranger.clone();
+    garbage[0] ^= 1;
+    (garbage, stranger)
+}
+
 fn ring_of<E: Engine + Default>(stations: u8) -> Vec<Host<E>> {
     let all: Vec<Settings> = (1..=stations)
         .map(|number| share(number, RING_WORDS))
@@ -248,6 +268,25 @@ fn main() {
         NANOSECOND,
         tick_listening::<Station>(),
         tick_listening::<Model>(),
+    );
+    line(
+        "ask with nothing due",
+        NANOSECOND,
+        ask_refused::<Station>(),
+        ask_refused::<Model>(),
+    );
+    let (garbage, stranger) = refused_frames();
+    line(
+        "hear a frame with another mark",
+        NANOSECOND,
+        hear_refused::<Station>(garbage.clone()),
+        hear_refused::<Model>(garbage),
+    );
+    line(
+        "hear a block of a station not listed",
+        NANOSECOND,
+        hear_refused::<Station>(stranger.clone()),
+        hear_refused::<Model>(stranger),
     );
     line(
         "hear a token frame, 1024 octets written",

@@ -55,7 +55,7 @@ pub fn done() -> Answer
     }
 }
 
-fn refused(refusal: Refusal) -> Answer
+pub fn refused(refusal: Refusal) -> Answer
     ensures { λ r. ⌜ r ≡ refusedAnswer refusal ⌝ }
 {
     Answer {

@@ -7,12 +7,13 @@ pub use boundary_running::stop;
 pub use boundary_showing::new;
 pub use boundary_showing::show;
 use frame::Fields;
+use frame::Refusal;
 use frame_reading::Read;
 ghost use mathlib.Core.Path.{_≡_};
 ghost use Rattle.boundary_core.specs.Crossing.{coreOf, stationIn};
 ghost use Rattle.boundary_answers.specs.Numbers.{heardAnswer, askedAnswer};
 ghost use Rattle.boundary_lists.specs.Lists.{membersIn};
-ghost use Rattle.frame_reading.specs.Reading.{readOf};
+ghost use Rattle.frame_reading.specs.Reading.{readHeaderOf, readOf};
 ghost use Rattle.frame_reading.specs.declared.Read.the-variants as reads;
 ghost use Rattle.station.specs.Rules.Asking.{askOf};
 ghost use Rattle.station.specs.Rules.Hearing.{hearOf};
@@ -55,26 +56,32 @@ fn hear_frame(
             assembly,
         );
     }
+    if boundary_refused::is_strange(core, sender, taker, frame) & lent {
+        return boundary_refused::refuse(core, Refusal::Stranger);
+    }
     boundary_whole::hear(core, listed, areas, watch, misses, octets, memory, assembly)
 }
 
-pub fn hear(
+// A frame whose header was read.
+fn hear_read(
     core: Core,
     listed: &mut [bool; 256],
     areas: &mut [u16; boundary_lists::AREA_NUMBERS],
     watch: &mut [u8; 256],
     misses: &mut [u8; 256],
+    header: Fields,
     octets: &[u8],
     memory: &mut [u8],
     assembly: &mut [u8],
 ) -> Outcome
+    requires { ⌜ readHeaderOf (now octets) ≡ reads.Frame header ⌝ }
     ensures { λ r. ⌜ r .core ≡ coreOf (hearOf (stationIn core (now (listed .entry)) (now (areas .entry)) (now (watch .entry)) (now (misses .entry))) (now (octets .entry)) (now (memory .entry)) (now (assembly .entry)) .station) ⌝ }
     ensures { λ r. ⌜ r .answer ≡ heardAnswer (hearOf (stationIn core (now (listed .entry)) (now (areas .entry)) (now (watch .entry)) (now (misses .entry))) (now (octets .entry)) (now (memory .entry)) (now (assembly .entry)) .answer) ⌝ }
     ensures { λ _. ⌜ now (memory .exit) ≡ hearOf (stationIn core (now (listed .entry)) (now (areas .entry)) (now (watch .entry)) (now (misses .entry))) (now (octets .entry)) (now (memory .entry)) (now (assembly .entry)) .memory ⌝ }
     ensures { λ _. ⌜ now (assembly .exit) ≡ hearOf (stationIn core (now (listed .entry)) (now (areas .entry)) (now (watch .entry)) (now (misses .entry))) (now (octets .entry)) (now (memory .entry)) (now (assembly .entry)) .assembly ⌝ }
     ensures { λ _. ⌜ membersIn (now (listed .exit)) (now (areas .exit)) (now (watch .exit)) (now (misses .exit)) ≡ hearOf (stationIn core (now (listed .entry)) (now (areas .entry)) (now (watch .entry)) (now (misses .entry))) (now (octets .entry)) (now (memory .entry)) (now (assembly .entry)) .station .members ⌝ }
 {
-    match frame_body::read_frame(octets) {
+    match frame_body::read_body(octets.len(), header) {
         Read::Frame(frame) => hear_frame(
             core,
             listed,
@@ -99,6 +106,42 @@ pub fn hear(
     }
 }
 
+pub fn hear(
+    core: Core,
+    listed: &mut [bool; 256],
+    areas: &mut [u16; boundary_lists::AREA_NUMBERS],
+    watch: &mut [u8; 256],
+    misses: &mut [u8; 256],
+    octets: &[u8],
+    memory: &mut [u8],
+    assembly: &mut [u8],
+) -> Outcome
+    ensures { λ r. ⌜ r .core ≡ coreOf (hearOf (stationIn core (now (listed .entry)) (now (areas .entry)) (now (watch .entry)) (now (misses .entry))) (now (octets .entry)) (now (memory .entry)) (now (assembly .entry)) .station) ⌝ }
+    ensures { λ r. ⌜ r .answer ≡ heardAnswer (hearOf (stationIn core (now (listed .entry)) (now (areas .entry)) (now (watch .entry)) (now (misses .entry))) (now (octets .entry)) (now (memory .entry)) (now (assembly .entry)) .answer) ⌝ }
+    ensures { λ _. ⌜ now (memory .exit) ≡ hearOf (stationIn core (now (listed .entry)) (now (areas .entry)) (now (watch .entry)) (now (misses .entry))) (now (octets .entry)) (now (memory .entry)) (now (assembly .entry)) .memory ⌝ }
+    ensures { λ _. ⌜ now (assembly .exit) ≡ hearOf (stationIn core (now (listed .entry)) (now (areas .entry)) (now (watch .entry)) (now (misses .entry))) (now (octets .entry)) (now (memory .entry)) (now (assembly .entry)) .assembly ⌝ }
+    ensures { λ _. ⌜ membersIn (now (listed .exit)) (now (areas .exit)) (now (watch .exit)) (now (misses .exit)) ≡ hearOf (stationIn core (now (listed .entry)) (now (areas .entry)) (now (watch .entry)) (now (misses .entry))) (now (octets .entry)) (now (memory .entry)) (now (assembly .entry)) .station .members ⌝ }
+{
+    let lent = (memory.len() == area::MEMORY_OCTETS) & (assembly.len() == area::MEMORY_OCTETS);
+    match frame_reading::read_header(octets) {
+        Read::Frame(header) => hear_read(
+            core,
+            listed,
+            areas,
+            watch,
+            misses,
+            header,
+            octets,
+            memory,
+            assembly,
+        ),
+        Read::Refused(refusal) => boundary_refused::refuse(
+            core,
+            boundary_refused::heard_refusal(lent, refusal),
+        ),
+    }
+}
+
 pub fn ask(
     core: Core,
     listed: &mut [bool; 256],
@@ -115,10 +158,12 @@ pub fn ask(
     ensures { λ _. ⌜ now (output .exit) ≡ askOf (stationIn core (now (listed .entry)) (now (areas .entry)) (now (watch .entry)) (now (misses .entry))) (now (memory .entry)) (now (turn .entry)) (now (output .entry)) .output ⌝ }
     ensures { λ _. ⌜ membersIn (now (listed .exit)) (now (areas .exit)) (now (watch .exit)) (now (misses .exit)) ≡ askOf (stationIn core (now (listed .entry)) (now (areas .entry)) (now (watch .entry)) (now (misses .entry))) (now (memory .entry)) (now (turn .entry)) (now (output .entry)) .station .members ⌝ }
 {
-    if boundary_participant::holds_block(core)
-        & asking_placing::is_lent_right(memory, turn, output)
-    {
+    let lent = asking_placing::is_lent_right(memory, turn, output);
+    if boundary_participant::holds_block(core) & lent {
         return boundary_in_place::ask(core, listed, areas, watch, misses, memory, turn, output);
+    }
+    if !(lent & boundary_refused::is_due(core)) {
+        return boundary_refused::refuse(core, boundary_refused::ask_refusal(lent));
     }
     boundary_whole::ask(core, listed, areas, watch, misses, memory, turn, output)
 }

@@ -25,7 +25,7 @@ pub fn phase_of(number: u8) -> Phase
     Phase::Off
 }
 
-fn phase_number(phase: Phase) -> u8
+pub fn phase_number(phase: Phase) -> u8
     ensures { λ r. ⌜ r ≡ phaseNumber phase ⌝ }
 {
     match phase {

@@ -3,6 +3,7 @@ mod across;
 
 pub use across::inner;
 pub use across::outer;
+pub use across::phase_number;
 pub use across::phase_of;
 pub use boundary_answers::Answer;
 pub use boundary_answers::Shown;
@@ -11,6 +12,7 @@ pub use boundary_answers::done;
 pub use boundary_answers::figure_shown;
 pub use boundary_answers::frame_answer;
 pub use boundary_answers::heard_answer;
+pub use boundary_answers::refused;
 pub use boundary_answers::switched_answer;
 pub use boundary_answers::ticked_answer;
 use panel::Panel;

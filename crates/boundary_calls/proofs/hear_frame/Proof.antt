@@ -1,7 +1,12 @@
 -- `boundary_calls::hear_frame` meets its contract.
-use Rattle.laws.specs.Usual.{refl, sym, _∙_, needs}
+use Rattle.laws.specs.Usual.{refl, sym, ap, ap₂, _∙_, Bool, _<_, arith, needs}
+use Rattle.boundary_answers.specs.Numbers.{heardAnswer}
+use Rattle.boundary_core.specs.Crossing.{coreOf}
+use Rattle.boundary_lists.specs.Laws.{listed-in}
+use Rattle.boundary_lists.specs.Lists.{membersIn}
+use Rattle.boundary_refused.specs.Strange.{isStrange, strange-heard}
 use Rattle.laws.specs.Tests.{first, second}
-use Rattle.station.specs.Rules.Hearing.{lentRight}
+use Rattle.station.specs.Rules.Hearing.{Hearing, lentRight}
 use Rattle.boundary_calls.proofs.hear_frame.Statement.{statement}
 use Rattle.boundary_calls.proofs.hear_frame.Tie as tie
 
@@ -31,6 +36,32 @@ same-length-2 c = search needs
 returns : tie.Need-returns
 returns c = search needs
 
+is-strange-requires : tie.Need-is-strange-requires
+is-strange-requires c κs = search needs
+
+refuse-requires : tie.Need-refuse-requires
+refuse-requires c κs = search needs
+
+returns-2 : tie.Need-returns-2
+returns-2 c =
+    let a = c .before .before .before .before .before .before .before .before .before .before .before .before .args in
+    let frame = a .frame in
+    let members = membersIn (a .listed .now) (a .areas .now) (a .watch .now) (a .misses .now) in
+    let lent = lentRight (a .memory .now) (a .assembly .now) in
+    let source : frame .source < 256 = omega (arith, c .before .before .before .before .before .before .before .before .before .before .before .before .good .1 .1 .1 .1 .1 .0) in
+    let destination : frame .destination < 256 = omega (arith, c .before .before .before .before .before .before .before .before .before .before .before .before .good .1 .1 .1 .1 .1 .0) in
+    let sender = c .before .before .before .before .before .before .before .is-listed .ensures ∙ sym (listed-in (a .listed .now) (a .areas .now) (a .watch .now) (a .misses .now) (frame .source) source) in
+    let taker = c .before .before .before .before .before .is-listed2 .ensures ∙ sym (listed-in (a .listed .now) (a .areas .now) (a .watch .now) (a .misses .now) (frame .destination) destination) in
+    let told = c .before .before .is-strange .ensures ∙ ap₂ (λ (s d : Bool). isStrange (a .core) s d frame) sender taker in
+    let strange = sym told ∙ first (c .before .before .is-strange .result) lent (c .before .if2 .taken) in
+    let law = strange-heard (a .core) members (a .octets .now) (a .memory .now) (a .assembly .now) frame strange (second (c .before .before .is-strange .result) lent (c .before .if2 .taken)) (c .before .before .before .before .before .before .before .before .before .before .before .before .pre) in (
+      c .refuse .ensures .0 ∙ sym (ap (λ (t : Hearing). coreOf (t .station)) law),
+      (
+        c .refuse .ensures .1 ∙ sym (ap (λ (t : Hearing). heardAnswer (t .answer)) law),
+        (sym (ap (λ (t : Hearing). t .memory) law), (sym (ap (λ (t : Hearing). t .assembly) law), sym (ap (λ (t : Hearing). t .station .members) law))),
+      ),
+    )
+
 hear-requires-2 : tie.Need-hear-requires-2
 hear-requires-2 c κs = search needs
 
@@ -40,8 +71,8 @@ same-length-3 c = search needs
 same-length-4 : tie.Need-same-length-4
 same-length-4 c = search needs
 
-returns-2 : tie.Need-returns-2
-returns-2 c = search needs
+returns-3 : tie.Need-returns-3
+returns-3 c = search needs
 
 pub hear-frame-spec : {M : Type 1} → statement M
 hear-frame-spec =
@@ -54,7 +85,10 @@ hear-frame-spec =
     same-length
     same-length-2
     returns
+    is-strange-requires
+    refuse-requires
+    returns-2
     hear-requires-2
     same-length-3
     same-length-4
-    returns-2)
+    returns-3)

@@ -1,0 +1,19 @@
+-- `boundary_refused::refuse` meets its contract.
+use Rattle.laws.specs.Usual.{needs}
+use Rattle.boundary_refused.proofs.refuse.Statement.{statement}
+use Rattle.boundary_refused.proofs.refuse.Tie as tie
+
+phase-of-requires : tie.Need-phase-of-requires
+phase-of-requires c κs = search needs
+
+phase-number-requires : tie.Need-phase-number-requires
+phase-number-requires c κs = search needs
+
+refused-requires : tie.Need-refused-requires
+refused-requires c κs = search needs
+
+returns : tie.Need-returns
+returns c = (rw (c .before .before .before .before .before .before .phase-number .ensures, c .before .before .before .before .before .before .before .phase-of .ensures), c .before .before .before .before .before .refused .ensures)
+
+pub refuse-spec : {M : Type 1} → statement M
+refuse-spec = tie.close (tie.spec phase-of-requires phase-number-requires refused-requires returns)

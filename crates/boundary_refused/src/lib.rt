@@ -1,0 +1,70 @@
+// Calls that are refused, on the core alone: whether a frame is due, why a call is refused, and what a refusal leaves.
+use boundary_core::Core;
+use boundary_core::Outcome;
+use boundary_core::phase_number;
+use boundary_core::phase_of;
+use frame::Fields;
+use frame::Refusal;
+use station::Phase;
+ghost use Rattle.laws.specs.Usual.{_≡_};
+ghost use Rattle.boundary_answers.specs.Numbers.{refusedAnswer};
+ghost use Rattle.boundary_refused.specs.Due.{dueCore, keptCore, askRefusal};
+ghost use Rattle.boundary_refused.specs.Unheard.{heardRefusal};
+ghost use Rattle.boundary_refused.specs.Strange.{isStrange};
+
+pub fn is_due(core: Core) -> bool
+    ensures { λ r. ⌜ r ≡ dueCore core ⌝ }
+{
+    let phase = phase_of(core.phase);
+    let own = core.own;
+    let elapsed = core.elapsed;
+    let waited = core.waited;
+    match phase {
+        Phase::Off => false,
+        Phase::Listening => waits::listening_time(own.number).0 <= elapsed.0,
+        Phase::Startup => (waits::number_wait(own.number).0 <= elapsed.0) & !core.sent,
+        Phase::Joining => (core.rounds == 3) & (waits::number_wait(own.number).0 <= waited.0),
+        Phase::Participating => (core.view == own.number)
+            & asking_placing::is_placed(own, core.block),
+    }
+}
+
+// 11 before 10.
+pub fn ask_refusal(lent: bool) -> Refusal
+    ensures { λ r. ⌜ r ≡ askRefusal lent ⌝ }
+{
+    if lent {
+        Refusal::NotDue
+    } else {
+        Refusal::Buffer
+    }
+}
+
+// 11 before those of the frame.
+pub fn heard_refusal(lent: bool, refusal: Refusal) -> Refusal
+    ensures { λ r. ⌜ r ≡ heardRefusal lent refusal ⌝ }
+{
+    if lent { refusal } else { Refusal::Buffer }
+}
+
+// Whether a participant refuses a cyclic frame that was read by number 9, by whether its source and its destination are listed.
+pub fn is_strange(core: Core, source: bool, destination: bool, frame: Fields) -> bool
+    ensures { λ r. ⌜ r ≡ isStrange core source destination frame ⌝ }
+{
+    let code = frame.code;
+    let number = core.own.number;
+    let cyclic = (core.phase == boundary_core::PARTICIPATING) & frame::is_cyclic(code);
+    let known = source & (!frame::is_token(code) | ((frame.destination == number) | destination));
+    cyclic & ((frame.source != number) & !known)
+}
+
+// A refused call: its number alone, and nothing altered.
+pub fn refuse(core: Core, refusal: Refusal) -> Outcome
+    ensures { λ r. ⌜ r .core ≡ keptCore core ⌝ }
+    ensures { λ r. ⌜ r .answer ≡ refusedAnswer refusal ⌝ }
+{
+    let phase = phase_number(phase_of(core.phase));
+    let answer = boundary_core::refused(refusal);
+    let core = Core { phase, ..core };
+    Outcome { core, answer }
+}
