@@ -49,14 +49,16 @@ static host hosts[STATIONS];
 static bool send_one(long now)
 {
     for (int from = 0; from < STATIONS; from++) {
-        size_t length = ask(&hosts[from]).octets;
+        flnet_answer answer = ask(&hosts[from]);
+        size_t length = answer.octets;
         for (int to = 0; length > 0 && to < STATIONS; to++) {
             if (to != from) {
                 hear(&hosts[to], hosts[from].output, length);
             }
         }
         if (length > 0) {
-            printf("%ld: station %d sends %zu octets, holder %d\n", now, from + 1, length, hosts[from].station.core.view);
+            printf("%ld: station %d sends %zu octets of code %d to %d at port %d, holder %d\n", now, from + 1, length, answer.frame.code,
+                   answer.frame.destination, flnet_port(answer.frame.code), hosts[from].station.core.view);
             return true;
         }
     }

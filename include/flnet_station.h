@@ -40,7 +40,7 @@ extern "C" {
 
 /*
  * UDP ports (JEM 1479, appendix C), one frame a datagram, broadcast: cyclic frames, with the token or without, are received at 55000,
- * requests and triggers at 55002; all are sent from 55003.
+ * requests and triggers at 55002; all are sent from 55003. flnet_port gives the port for the code of a frame that was written.
  */
 #define FLNET_PORT_CYCLIC 55000
 #define FLNET_PORT_REQUEST_AND_TRIGGER 55002
@@ -159,14 +159,37 @@ typedef struct {
 /* The list of a flnet_station, as the calls take it. */
 #define FLNET_LIST(station) (station).list.listed, (station).list.areas, (station).list.watch, (station).list.misses
 
-/* What a call answers. A field that the word does not point to is 0. */
+/* Transaction codes of the frames that a station handles. */
+#define FLNET_CODE_TOKEN 65000   /* cyclic, with the token */
+#define FLNET_CODE_CYCLIC 65001  /* cyclic, without it */
+#define FLNET_CODE_REQUEST 65002 /* participation request */
+#define FLNET_CODE_TRIGGER 65012
+
+/* A frame's code, and where it comes from and goes to. A request and a trigger go to 255, which is everyone. */
+typedef struct {
+    uint16_t code;
+    uint8_t source;
+    uint8_t destination;
+} flnet_route;
+
+/*
+ * What a call answers. A field that the word does not point to is 0. The frame is the one that was written, or that a hearing was given: a
+ * frame that can be read, whatever is answered to it, also where it is refused with 6, 9 or 11; else its numbers are 0.
+ */
 typedef struct {
     uint8_t word;
     uint8_t refusal;
     uint8_t token;
     uint8_t data;
+    flnet_route frame;
     size_t octets; /* of the frame that was written */
 } flnet_answer;
+
+/* The UDP port at which a frame of a code is received. */
+static inline uint16_t flnet_port(uint16_t code)
+{
+    return code == FLNET_CODE_TOKEN || code == FLNET_CODE_CYCLIC ? FLNET_PORT_CYCLIC : FLNET_PORT_REQUEST_AND_TRIGGER;
+}
 
 /* A call's result: the core after it, and the answer. */
 typedef struct {
@@ -277,6 +300,7 @@ static_assert(sizeof(flnet_gathering) == 2, "flnet_gathering");
 static_assert(sizeof(flnet_panel) == 12, "flnet_panel");
 static_assert(sizeof(flnet_core) == 40, "flnet_core");
 static_assert(sizeof(flnet_station) == 2856, "flnet_station");
+static_assert(sizeof(flnet_route) == 4, "flnet_route");
 static_assert(sizeof(flnet_answer) == 16, "flnet_answer");
 static_assert(sizeof(flnet_result) == 56, "flnet_result");
 static_assert(sizeof(flnet_figure) == 24, "flnet_figure");

@@ -1,8 +1,9 @@
 //! The model and the proved station side by side: each call goes to both, and all that can be seen
 //! of them is compared.
 
-use crate::boundary::{Answer, Core, Figure, Settings, Station};
+use crate::boundary::{Answer, Core, Figure, Route, Settings, Station};
 use crate::call::{perform, Buffers, Call};
+use crate::model::frame::Header;
 use crate::model::Model;
 use crate::names;
 use crate::random::Random;
@@ -17,6 +18,21 @@ pub struct Both {
     proved_lent: Buffers,
     /// What both showed after the last call.
     state: Station,
+}
+
+/// What an answer tells of the frame that was heard or written. The model's calls leave it out, so
+/// that they are not slowed by reading a frame twice.
+fn route(call: &Call, answer: &Answer, lent: &Buffers) -> Route {
+    let octets = match call {
+        Call::Hear { octets, .. } => octets,
+        Call::Ask { .. } => &lent.output[..answer.octets],
+        _ => &[][..],
+    };
+    Header::of(octets).map_or_else(Route::default, |header| Route {
+        code: header.code as u16,
+        source: header.source,
+        destination: header.destination,
+    })
 }
 
 impl Both {
@@ -59,7 +75,8 @@ impl Both {
 
     pub fn call(&mut self, call: &Call) -> Answer {
         self.calls += 1;
-        let expected = perform(&mut self.model, call, &mut self.model_lent);
+        let mut expected = perform(&mut self.model, call, &mut self.model_lent);
+        expected.frame = route(call, &expected, &self.model_lent);
         let given = perform(&mut self.proved, call, &mut self.proved_lent);
         let state = Station::from(&self.model);
         let same_lent = !call.lends() || self.model_lent == self.proved_lent;

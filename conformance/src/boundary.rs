@@ -129,6 +129,15 @@ pub struct Station {
     pub list: List,
 }
 
+/// A frame's code, and where it comes from and goes to.
+#[repr(C)]
+#[derive(Clone, Copy, Debug, Default, PartialEq, Eq)]
+pub struct Route {
+    pub code: u16,
+    pub source: u8,
+    pub destination: u8,
+}
+
 #[repr(C)]
 #[derive(Clone, Copy, Debug, Default, PartialEq, Eq)]
 pub struct Answer {
@@ -136,6 +145,7 @@ pub struct Answer {
     pub refusal: u8,
     pub token: u8,
     pub data: u8,
+    pub frame: Route,
     pub octets: usize,
 }
 

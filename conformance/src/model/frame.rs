@@ -112,6 +112,13 @@ impl Header {
         }
     }
 
+    /// A frame that passes both parts of the reading.
+    pub fn of(octets: &[u8]) -> Option<Header> {
+        let header = Header::read(octets).ok()?;
+        header.data(octets).ok()?;
+        Some(header)
+    }
+
     pub fn has_token(&self) -> bool {
         self.code == Code::Token
     }

@@ -1,16 +1,18 @@
 // The answers as numbers, for C.
 use frame::Refusal;
-use panel::Figure;
-use station::Asked;
 use station::Data;
-use station::Heard;
-use station::Switched;
-use station::Ticked;
 use station::Token;
-use units::Ticks;
 ghost use mathlib.Core.Path.{_≡_};
-ghost use Rattle.boundary_answers.specs.Numbers.{offAnswer, doneAnswer, refusedAnswer, switchedAnswer, tickedAnswer, cyclicAnswer, heardAnswer, frameAnswer, askedAnswer, gapKind, kindOf, gapTicks, ticksOf, figureNumbers};
+ghost use Rattle.boundary_answers.specs.Numbers.{doneAnswer, refusedAnswer, cyclicAnswer, frameAnswer};
 ghost use Rattle.station.specs.Rules.Answers.{dataNumber, tokenNumber, dataOf};
+
+// Where a frame comes from and goes to, and its code.
+#[repr(C)]
+pub struct Route {
+    pub code: u16,
+    pub source: u8,
+    pub destination: u8,
+}
 
 // An answer of any call. What the word does not point to is 0.
 #[repr(C)]
@@ -19,29 +21,21 @@ pub struct Answer {
     pub refusal: u8,
     pub token: u8,
     pub outcome: u8,
+    pub frame: Route,
     pub octets: usize,
 }
 
-// What the panel shows, and its text.
-#[repr(C)]
-pub struct Shown {
-    pub kind: u8,
-    pub ticks: u16,
-    pub octets: [u8; 6],
-    pub length: usize,
-}
+// The word of an answer that is a frame, and of one that is a refusal.
+pub const FRAME: u8 = 3;
 
-fn off() -> Answer
-    ensures { λ r. ⌜ r ≡ offAnswer ⌝ }
-{
-    Answer {
-        word: 0,
-        refusal: 0,
-        token: 0,
-        outcome: 0,
-        octets: 0,
-    }
-}
+pub const REFUSED: u8 = 4;
+
+// Of no frame.
+pub const NO_FRAME: Route = Route {
+    code: 0,
+    source: 0,
+    destination: 0,
+};
 
 pub fn done() -> Answer
     ensures { λ r. ⌜ r ≡ doneAnswer ⌝ }
@@ -51,6 +45,7 @@ pub fn done() -> Answer
         refusal: 0,
         token: 0,
         outcome: 0,
+        frame: NO_FRAME,
         octets: 0,
     }
 }
@@ -59,29 +54,12 @@ pub fn refused(refusal: Refusal) -> Answer
     ensures { λ r. ⌜ r ≡ refusedAnswer refusal ⌝ }
 {
     Answer {
-        word: 4,
+        word: REFUSED,
         refusal: frame::number_of(refusal),
         token: 0,
         outcome: 0,
+        frame: NO_FRAME,
         octets: 0,
-    }
-}
-
-pub fn switched_answer(answer: Switched) -> Answer
-    ensures { λ r. ⌜ r ≡ switchedAnswer answer ⌝ }
-{
-    match answer {
-        Switched::Done => done(),
-        Switched::Refused(refusal) => refused(refusal),
-    }
-}
-
-pub fn ticked_answer(answer: Ticked) -> Answer
-    ensures { λ r. ⌜ r ≡ tickedAnswer answer ⌝ }
-{
-    match answer {
-        Ticked::Off => off(),
-        Ticked::Done => done(),
     }
 }
 
@@ -128,18 +106,8 @@ pub fn cyclic(token: Token) -> Answer
         refusal: 0,
         token: token_number(token),
         outcome: data_number(outcome),
+        frame: NO_FRAME,
         octets: 0,
-    }
-}
-
-pub fn heard_answer(answer: Heard) -> Answer
-    ensures { λ r. ⌜ r ≡ heardAnswer answer ⌝ }
-{
-    match answer {
-        Heard::Off => off(),
-        Heard::Done => done(),
-        Heard::Cyclic(token) => cyclic(token),
-        Heard::Refused(refusal) => refused(refusal),
     }
 }
 
@@ -148,66 +116,11 @@ pub fn frame_answer(octets: usize) -> Answer
     ensures { λ r. ⌜ r ≡ frameAnswer octets ⌝ }
 {
     Answer {
-        word: 3,
+        word: FRAME,
         refusal: 0,
         token: 0,
         outcome: 0,
+        frame: NO_FRAME,
         octets,
-    }
-}
-
-pub fn asked_answer(answer: Asked) -> Answer
-    ensures { λ r. ⌜ r ≡ askedAnswer answer ⌝ }
-{
-    match answer {
-        Asked::Octets(octets) => frame_answer(octets),
-        Asked::Refused(refusal) => refused(refusal),
-    }
-}
-
-// The kind of a gap: over above 65,535 ticks.
-fn gap_kind(gap: Ticks) -> u8
-    ensures { λ r. ⌜ r ≡ gapKind gap ⌝ }
-{
-    if panel::is_over(gap) { 1 } else { 2 }
-}
-
-fn kind_of(figure: Figure) -> u8
-    ensures { λ r. ⌜ r ≡ kindOf figure ⌝ }
-{
-    match figure {
-        Figure::Nothing => 0,
-        Figure::Over => 1,
-        Figure::Gap(gap) => gap_kind(gap),
-    }
-}
-
-// The ticks of a gap that is not over.
-fn gap_ticks(gap: Ticks) -> u16
-    ensures { λ r. ⌜ r ≡ gapTicks gap ⌝ }
-{
-    if panel::is_over(gap) { 0 } else { gap.0 as u16 }
-}
-
-fn ticks_of(figure: Figure) -> u16
-    ensures { λ r. ⌜ r ≡ ticksOf figure ⌝ }
-{
-    match figure {
-        Figure::Nothing => 0,
-        Figure::Over => 0,
-        Figure::Gap(gap) => gap_ticks(gap),
-    }
-}
-
-pub fn figure_shown(figure: Figure) -> Shown
-    ensures { λ r. ⌜ r ≡ figureNumbers figure ⌝ }
-{
-    let text = panel::text_of(figure);
-    let octets = text.octets;
-    Shown {
-        kind: kind_of(figure),
-        ticks: ticks_of(figure),
-        octets,
-        length: text.length,
     }
 }

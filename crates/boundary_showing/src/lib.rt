@@ -1,9 +1,9 @@
 // A new station, and what a station's front panel shows.
 use boundary_core::Core;
-use boundary_core::Shown;
+use boundary_figure::Shown;
 ghost use mathlib.Core.Path.{_≡_};
 ghost use Rattle.boundary_core.specs.Crossing.{coreOf, figureIn};
-ghost use Rattle.boundary_answers.specs.Numbers.{figureNumbers};
+ghost use Rattle.boundary_figure.specs.Figures.{figureNumbers};
 ghost use Rattle.boundary_lists.specs.Lists.{membersIn};
 ghost use Rattle.members.specs.Members.{noMembers};
 ghost use Rattle.station.specs.Rules.State.{never};
@@ -27,5 +27,5 @@ pub fn show(core: Core) -> Shown
     ensures { λ r. ⌜ r ≡ figureNumbers (figureIn core) ⌝ }
 {
     let panel = core.panel;
-    boundary_core::figure_shown(phases::figure_in(boundary_core::phase_of(core.phase), panel))
+    boundary_figure::figure_shown(phases::figure_in(boundary_core::phase_of(core.phase), panel))
 }

@@ -2,7 +2,8 @@
 -- `crates/flnet_station/src/lib.rt`, one equation for each of their clauses. ("Box" is the request's word for a station's device.)
 use Rattle.laws.specs.Usual.{_≡_, Bool, List, ℕ}
 use Rattle.boundary_core.specs.Crossing.{coreOf, stationIn}
-use Rattle.boundary_answers.specs.Numbers.{switchedAnswer, tickedAnswer, heardAnswer, askedAnswer}
+use Rattle.boundary_answers.specs.Numbers.{switchedAnswer, tickedAnswer}
+use Rattle.boundary_told.specs.Told.{heardTold, askedTold}
 use Rattle.boundary_answers.specs.declared.Answer.{Answer}
 use Rattle.boundary_core.specs.declared.Core.{Core}
 use Rattle.boundary_lists.specs.Lists.{membersIn, Whole}
@@ -31,8 +32,8 @@ abbrev pub answerOf : Station → Call → Answer
 answerOf station (start settings) = switchedAnswer (startOf station settings .answer)
 answerOf station stop = switchedAnswer (stopOf station .answer)
 answerOf station tick = tickedAnswer (tickOf station .answer)
-answerOf station (hear octets memory assembly) = heardAnswer (hearOf station octets memory assembly .answer)
-answerOf station (ask memory turn output) = askedAnswer (askOf station memory turn output .answer)
+answerOf station (hear octets memory assembly) = heardTold octets (hearOf station octets memory assembly .answer)
+answerOf station (ask memory turn output) = askedTold (askOf station memory turn output .output) (askOf station memory turn output .answer)
 
 -- An exported call on a box: the box after it, its answer, and the lent buffers after it.
 pub record Done (before : Box) (call : Call) (left : Box) (answer : Answer) (buffers : List (List ℕ)) : Type 0 where

@@ -3,3 +3,4 @@ pub mod Boxes
 -- Theorems.
 pub mod Refusals
 pub mod Rings
+pub mod Frames

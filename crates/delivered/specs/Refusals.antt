@@ -3,7 +3,8 @@
 use Rattle.laws.specs.Usual.{_≡_, refl, sym, ap, _∙_, false, List, ℕ, suc, _<_, _≤_, arith}
 use Prim.Native.Nat.{zero}
 use Rattle.boundary_core.specs.Crossing.{coreOf, stationOf, station-kept, phaseOf}
-use Rattle.boundary_answers.specs.Numbers.{switchedAnswer, tickedAnswer, heardAnswer, askedAnswer}
+use Rattle.boundary_answers.specs.Numbers.{switchedAnswer, tickedAnswer}
+use Rattle.boundary_told.specs.Told.{heardTold, askedTold}
 use Rattle.boundary_answers.specs.declared.Answer.{Answer}
 use Rattle.boundary_core.specs.declared.Core.{Core}
 use Rattle.frame.specs.Refusals.{numberOf}
@@ -57,22 +58,22 @@ ticked-told : (answer : Ticked) → tickedAnswer answer .word ≡ 4 → Told unr
 ticked-told ticked.Off e = other-word e (omega arith)
 ticked-told ticked.Done e = other-word e (omega arith)
 
-heard-told : (answer : Heard) → heardAnswer answer .word ≡ 4 → Told (heardVerdict answer) (heardAnswer answer)
-heard-told heard.Off e = other-word e (omega arith)
-heard-told heard.Done e = other-word e (omega arith)
-heard-told (heard.Cyclic token) e = other-word e (omega arith)
-heard-told (heard.Refused refusal) e = record { refusal = refusal; number = refl; refused = refl }
+heard-told : (octets : List ℕ) (answer : Heard) → heardTold octets answer .word ≡ 4 → Told (heardVerdict answer) (heardTold octets answer)
+heard-told octets heard.Off e = other-word e (omega arith)
+heard-told octets heard.Done e = other-word e (omega arith)
+heard-told octets (heard.Cyclic token) e = other-word e (omega arith)
+heard-told octets (heard.Refused refusal) e = record { refusal = refusal; number = refl; refused = refl }
 
-asked-told : (answer : Asked) → askedAnswer answer .word ≡ 4 → Told (askedVerdict answer) (askedAnswer answer)
-asked-told (asked.Octets count) e = other-word e (omega arith)
-asked-told (asked.Refused refusal) e = record { refusal = refusal; number = refl; refused = refl }
+asked-told : (output : List ℕ) (answer : Asked) → askedTold output answer .word ≡ 4 → Told (askedVerdict answer) (askedTold output answer)
+asked-told output (asked.Octets count) e = other-word e (omega arith)
+asked-told output (asked.Refused refusal) e = record { refusal = refusal; number = refl; refused = refl }
 
 pub told : (station : Station) (call : Call) → answerOf station call .word ≡ 4 → Told (verdict station call) (answerOf station call)
 told station (start settings) = switched-told (startOf station settings .answer)
 told station stop = switched-told (stopOf station .answer)
 told station tick = ticked-told (tickOf station .answer)
-told station (hear octets memory assembly) = heard-told (hearOf station octets memory assembly .answer)
-told station (ask memory turn output) = asked-told (askOf station memory turn output .answer)
+told station (hear octets memory assembly) = heard-told octets (hearOf station octets memory assembly .answer)
+told station (ask memory turn output) = asked-told (askOf station memory turn output .output) (askOf station memory turn output .answer)
 
 -- a core whose phase is one of the five comes back as it was
 phase-back : (number : ℕ) → number ≤ 4 → phaseNumber (phaseOf number) ≡ number

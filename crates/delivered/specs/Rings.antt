@@ -4,7 +4,7 @@ use Rattle.laws.specs.Usual.{_≡_, refl, sym, ap, ap₂, subst, _∙_, List, [
 use mathlib.Core.List.{head-eq-of-cons-eq, tail-eq-of-cons-eq}
 use native.Mathlib.Decide.{ℕ-discrete}
 use borrow.Author.Tests.{eq-eqb, ne-eqb}
-use Rattle.boundary_answers.specs.Numbers.{askedAnswer}
+use Rattle.boundary_told.specs.Told.{askedTold}
 use Rattle.boundary_answers.specs.declared.Answer.{Answer}
 use Rattle.ring.specs.Demand.{Disturbed, RingSettles}
 use Rattle.ring.specs.DemandThree.{demand-three-whole}
@@ -68,12 +68,12 @@ called-is : {before left : Box} {call : Call} → Called before call left → st
 called-is (by answer buffers done) = left-is done
 
 -- what is handed on is what the rules hand on
-handed-is : {before left : Box} {lent : Lent} {output : List ℕ} (asks : Asked) → Handed before left lent (askedAnswer asks) output
+handed-is : {before left : Box} {lent : Lent} {output : List ℕ} (written : List ℕ) (asks : Asked) → Handed before left lent (askedTold written asks) output
     → stationAt left ≡ handed (stationAt before) lent asks output
-handed-is (answers.Octets count) (hears word called) = called-is called
-handed-is (answers.Octets count) (spared other e) = absurd (other refl)
-handed-is (answers.Refused refusal) (hears word called) = absurd (omega arith)
-handed-is (answers.Refused refusal) (spared other e) = ap stationAt e
+handed-is written (answers.Octets count) (hears word called) = called-is called
+handed-is written (answers.Octets count) (spared other e) = absurd (other refl)
+handed-is written (answers.Refused refusal) (hears word called) = absurd (omega arith)
+handed-is written (answers.Refused refusal) (spared other e) = ap stationAt e
 
 module _ (numbers : List ℕ) (boxes left : Boxes) (stations : Stations) (holding : Holding numbers boxes stations) where
   module _ (who : ℕ) (member : who ∈ numbers) (memory turn output : List ℕ) (lent : ℕ → Lent)
@@ -90,7 +90,7 @@ module _ (numbers : List ℕ) (boxes left : Boxes) (stations : Stations) (holdin
     hearer-is : (n : ℕ) → n ∈ numbers → ¬ (n ≡ who)
         → stationAt (left n) ≡ handed (stations n) (lent n) (asks (stations who)) (askOf (stations who) memory turn output .output)
     hearer-is n m other =
-        handed-is (asks (stationAt (boxes who)))
+        handed-is (askOf (stationAt (boxes who)) memory turn output .output) (asks (stationAt (boxes who)))
         (subst (λ (a : Answer). Handed (boxes n) (left n) (lent n) a (sent .output-after)) (sent .done .answered) (sent .others n m other))
         ∙ ap (λ (o : List ℕ). handed (stationAt (boxes n)) (lent n) (asks (stationAt (boxes who))) o) output-is
         ∙ ap₂ (λ (s w : Station). handed s (lent n) (asks w) (askOf w memory turn output .output)) (holding n m) (holding who member)

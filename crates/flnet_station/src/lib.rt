@@ -2,11 +2,13 @@
 // as arrays.
 use boundary_core::Core;
 use boundary_core::Outcome;
-use boundary_core::Shown;
+use boundary_figure::Shown;
 use station::Settings;
 ghost use mathlib.Core.Path.{_≡_};
 ghost use Rattle.boundary_core.specs.Crossing.{coreOf, stationIn, figureIn};
-ghost use Rattle.boundary_answers.specs.Numbers.{switchedAnswer, tickedAnswer, heardAnswer, askedAnswer, figureNumbers};
+ghost use Rattle.boundary_answers.specs.Numbers.{switchedAnswer, tickedAnswer};
+ghost use Rattle.boundary_told.specs.Told.{heardTold, askedTold};
+ghost use Rattle.boundary_figure.specs.Figures.{figureNumbers};
 ghost use Rattle.boundary_lists.specs.Lists.{membersIn};
 ghost use Rattle.members.specs.Members.{noMembers};
 ghost use Rattle.station.specs.Rules.Asking.{askOf};
@@ -87,12 +89,12 @@ pub extern "C" fn flnet_hear(
     assembly: &mut [u8],
 ) -> Outcome
     ensures { λ r. ⌜ r .core ≡ coreOf (hearOf (stationIn core (now (listed .entry)) (now (areas .entry)) (now (watch .entry)) (now (misses .entry))) (now (octets .entry)) (now (memory .entry)) (now (assembly .entry)) .station) ⌝ }
-    ensures { λ r. ⌜ r .answer ≡ heardAnswer (hearOf (stationIn core (now (listed .entry)) (now (areas .entry)) (now (watch .entry)) (now (misses .entry))) (now (octets .entry)) (now (memory .entry)) (now (assembly .entry)) .answer) ⌝ }
+    ensures { λ r. ⌜ r .answer ≡ heardTold (now (octets .entry)) (hearOf (stationIn core (now (listed .entry)) (now (areas .entry)) (now (watch .entry)) (now (misses .entry))) (now (octets .entry)) (now (memory .entry)) (now (assembly .entry)) .answer) ⌝ }
     ensures { λ _. ⌜ now (memory .exit) ≡ hearOf (stationIn core (now (listed .entry)) (now (areas .entry)) (now (watch .entry)) (now (misses .entry))) (now (octets .entry)) (now (memory .entry)) (now (assembly .entry)) .memory ⌝ }
     ensures { λ _. ⌜ now (assembly .exit) ≡ hearOf (stationIn core (now (listed .entry)) (now (areas .entry)) (now (watch .entry)) (now (misses .entry))) (now (octets .entry)) (now (memory .entry)) (now (assembly .entry)) .assembly ⌝ }
     ensures { λ _. ⌜ membersIn (now (listed .exit)) (now (areas .exit)) (now (watch .exit)) (now (misses .exit)) ≡ hearOf (stationIn core (now (listed .entry)) (now (areas .entry)) (now (watch .entry)) (now (misses .entry))) (now (octets .entry)) (now (memory .entry)) (now (assembly .entry)) .station .members ⌝ }
 {
-    boundary_calls::hear(core, listed, areas, watch, misses, octets, memory, assembly)
+    boundary_telling::hear(core, listed, areas, watch, misses, octets, memory, assembly)
 }
 
 #[no_mangle]
@@ -107,12 +109,12 @@ pub extern "C" fn flnet_ask(
     output: &mut [u8],
 ) -> Outcome
     ensures { λ r. ⌜ r .core ≡ coreOf (askOf (stationIn core (now (listed .entry)) (now (areas .entry)) (now (watch .entry)) (now (misses .entry))) (now (memory .entry)) (now (turn .entry)) (now (output .entry)) .station) ⌝ }
-    ensures { λ r. ⌜ r .answer ≡ askedAnswer (askOf (stationIn core (now (listed .entry)) (now (areas .entry)) (now (watch .entry)) (now (misses .entry))) (now (memory .entry)) (now (turn .entry)) (now (output .entry)) .answer) ⌝ }
+    ensures { λ r. ⌜ r .answer ≡ askedTold (askOf (stationIn core (now (listed .entry)) (now (areas .entry)) (now (watch .entry)) (now (misses .entry))) (now (memory .entry)) (now (turn .entry)) (now (output .entry)) .output) (askOf (stationIn core (now (listed .entry)) (now (areas .entry)) (now (watch .entry)) (now (misses .entry))) (now (memory .entry)) (now (turn .entry)) (now (output .entry)) .answer) ⌝ }
     ensures { λ _. ⌜ now (turn .exit) ≡ askOf (stationIn core (now (listed .entry)) (now (areas .entry)) (now (watch .entry)) (now (misses .entry))) (now (memory .entry)) (now (turn .entry)) (now (output .entry)) .turn ⌝ }
     ensures { λ _. ⌜ now (output .exit) ≡ askOf (stationIn core (now (listed .entry)) (now (areas .entry)) (now (watch .entry)) (now (misses .entry))) (now (memory .entry)) (now (turn .entry)) (now (output .entry)) .output ⌝ }
     ensures { λ _. ⌜ membersIn (now (listed .exit)) (now (areas .exit)) (now (watch .exit)) (now (misses .exit)) ≡ askOf (stationIn core (now (listed .entry)) (now (areas .entry)) (now (watch .entry)) (now (misses .entry))) (now (memory .entry)) (now (turn .entry)) (now (output .entry)) .station .members ⌝ }
 {
-    boundary_calls::ask(core, listed, areas, watch, misses, memory, turn, output)
+    boundary_telling::ask(core, listed, areas, watch, misses, memory, turn, output)
 }
 
 // What the front panel shows. The list does not matter to it.

@@ -1,7 +1,7 @@
 -- What is promised: each printed statement written out, in the order of docs/PROMISES.md, and proved by the theorem that is named beside it.
 -- The definitions that the statements are made of are the rules themselves, which the contracts of the calls cite. Words in quotes are the
 -- request's and paper 01's.
-use Rattle.laws.specs.Usual.{_≡_, refl, true, false, cond, not, _&&_, _||_, false≢true, List, [], _∷_, _++_, ℕ, _+_, _-_, _*_, _<_, _≤_, length, getD, take, eqb}
+use Rattle.laws.specs.Usual.{_≡_, refl, sym, ap, _∙_, true, false, cond, not, _&&_, _||_, false≢true, List, [], _∷_, _++_, ℕ, _+_, _-_, _*_, _<_, _≤_, length, getD, take, eqb}
 use mathlib.Core.Logic.{_⊎_, inl, inr}
 use Rattle.area.specs.Areas.{inArea, inRange}
 use Rattle.area.specs.Overlap.{partsOverlap, areasOverlap}
@@ -12,15 +12,17 @@ use Rattle.block.specs.Blocks.{octetsOf, blocksOf, startOf, lengthOf}
 use Rattle.block.specs.Cut as cut
 use Rattle.boundary_core.specs.Crossing.{figureIn}
 use Rattle.boundary_answers.specs.declared.Answer.{Answer}
+use Rattle.boundary_told.specs.Told.{routeRead}
 use Rattle.cases.specs.Marked.{every, rules, holds, marked, marked-hold}
 use Rattle.decode_line.specs.Gathering as decoded
 use Rattle.decode_line.specs.Heard.{line-heard}
 use Rattle.decode_line.specs.Line.{lineAnswer, pushedAll, bufferAll}
 use Rattle.delivered.specs.Boxes.{Box, stationAt, Done}
+use Rattle.delivered.specs.Frames.{heard-frame, written-frame}
 use Rattle.delivered.specs.Refusals.{Kept, refused-kept}
 use Rattle.delivered.specs.Rings.{Boxes, stationsIn, Runs, delivered-settles}
 use Rattle.text_feeding.specs.Lines as lines
-use Rattle.frame.specs.Codes.{isToken, isCyclic}
+use Rattle.frame.specs.Codes.{codeNumber, isToken, isCyclic}
 use Rattle.frame.specs.Octets.{octetAt}
 use Rattle.frame.specs.Refusals.{order}
 use Rattle.frame.specs.declared.Refusal.the-variants.{Taken}
@@ -56,7 +58,7 @@ use Rattle.station.specs.Rules.Answers.{dataOf}
 use Rattle.station.specs.States.Disjoint.{Apart}
 use Rattle.station.specs.Frames.FrameAccepted.{frame-asked, frame-accepted}
 use Rattle.station.specs.Rules.Asking.{askOf, dueFields}
-use Rattle.station.specs.Rules.Calls.{Call, hear, after, lent, lentAfter, refusedBy, unrefused, verdict}
+use Rattle.station.specs.Rules.Calls.{Call, hear, ask, after, lent, lentAfter, refusedBy, unrefused, verdict}
 use Rattle.station.specs.Memory.Gathers.{Parts}
 use Rattle.station.specs.Rules.Hearing.{hearOf, knows, lentRight}
 use Rattle.station.specs.Panel.History.{stepOf, stateAfter, history, participates, takings, lastGap}
@@ -73,7 +75,7 @@ use Rattle.station.specs.Memory.TurnWhole.{Lending, turn-whole}
 use Rattle.station.specs.Memory.TurnWritten.{Turned, turn-written}
 use Rattle.station.specs.declared.Asked.the-variants.{Octets}
 use Rattle.station.specs.declared.Heard.the-variants as heard
-use Rattle.station.specs.Types.{Areas, Part, Fields, Refusal, Frame}
+use Rattle.station.specs.Types.{Areas, Part, Fields, Refusal, Frame, Refused}
 use Rattle.station.specs.declared.Phase.{Phase}
 use Rattle.station.specs.declared.Phase.the-variants.{Off, Listening, Startup, Joining, Participating}
 use Rattle.station.specs.declared.Station.{Station}
@@ -320,6 +322,22 @@ pub frames-accepted : (station : Station) → Reachable station → (memory turn
 frames-accepted station reached memory turn output count e listener inside other source destination =
     frame-accepted station reached memory turn output count e listener
     (record { participates = inside; other = other; source = source; destination = destination })
+
+-- an exported call's answer has the code, the source and the destination of the frame that was read, or that was written,
+pub frame-told-heard : {before left : Box} {octets memory assembly : List ℕ} {answer : Answer} {buffers : List (List ℕ)}
+    → Done before (hear octets memory assembly) left answer buffers
+    → ((frame : Fields) → readOf octets ≡ Frame frame
+    → answer .frame ≡ record { code = codeNumber (frame .code); source = frame .source; destination = frame .destination })
+    × ((refusal : Refusal) → readOf octets ≡ Refused refusal → answer .frame ≡ record { code = 0; source = 0; destination = 0 })
+frame-told-heard = heard-frame
+
+pub frame-told-written : {before left : Box} {memory turn output : List ℕ} {answer : Answer} {buffers : List (List ℕ)} → Reachable (stationAt before)
+    → Done before (ask memory turn output) left answer buffers → answer .word ≡ 3 → (frame : Fields)
+    → readOf (take (answer .octets) (askOf (stationAt before) memory turn output .output)) ≡ Frame frame
+    → answer .frame ≡ record { code = codeNumber (frame .code); source = frame .source; destination = frame .destination }
+frame-told-written reached done word frame read =
+    let found = written-frame reached done word in
+    found .0 ∙ ap routeRead (sym (found .1) ∙ read)
 
 -- any frame with fields that a station can send reads back to them, and to its data,
 pub reads-back : (fields : Fields) (block : List ℕ) → Sendable fields → dataSize fields ≤ length block

@@ -1,0 +1,94 @@
+// What an answer tells of the frame that was heard or written, for C.
+use boundary_answers::Answer;
+use boundary_answers::FRAME;
+use boundary_answers::NO_FRAME;
+use boundary_answers::REFUSED;
+use boundary_answers::Route;
+use frame::Fields;
+use frame::Refusal;
+use frame_reading::DNA;
+use frame_reading::Read;
+use frame_reading::SNA;
+use frame_reading::TCD;
+ghost use Rattle.laws.specs.Usual.{_≡_};
+ghost use Rattle.frame.specs.Octets.{octetAt};
+ghost use Rattle.frame_reading.specs.Reading.{readOf};
+ghost use Rattle.boundary_told.specs.Told.{routeOf, routeRead, routeIn, withFrame, isBy, routeHeard, writtenTold};
+
+fn route_of(frame: Fields) -> Route
+    ensures { λ r. ⌜ r ≡ routeOf frame ⌝ }
+{
+    let code = frame.code;
+    Route {
+        code: frame::number_of_code(code),
+        source: frame.source,
+        destination: frame.destination,
+    }
+}
+
+// The octets read once more.
+fn route_read(s: &[u8]) -> Route
+    ensures { λ r. ⌜ r ≡ routeRead (readOf (now (s .entry))) ⌝ }
+{
+    match frame_body::read_frame(s) {
+        Read::Frame(frame) => route_of(frame),
+        Read::Refused(_) => NO_FRAME,
+    }
+}
+
+fn octet_at(s: &[u8], at: usize) -> u8
+    ensures { λ r. ⌜ r ≡ octetAt (now (s .entry)) at ⌝ }
+{
+    if at < s.len() { s[at] } else { 0 }
+}
+
+fn route_in(s: &[u8]) -> Route
+    ensures { λ r. ⌜ r ≡ routeIn (now (s .entry)) ⌝ }
+{
+    let high = octet_at(s, TCD);
+    let low = octet_at(s, TCD + 1);
+    Route {
+        code: high as u16 * 256 + low as u16,
+        source: octet_at(s, SNA),
+        destination: octet_at(s, DNA),
+    }
+}
+
+fn is_by(refusal: Refusal, answer: Answer) -> bool
+    ensures { λ r. ⌜ r ≡ isBy refusal answer ⌝ }
+{
+    (answer.word == REFUSED) & (answer.refusal == frame::number_of(refusal))
+}
+
+fn route_heard(answer: Answer, octets: &[u8]) -> Route
+    ensures { λ r. ⌜ r ≡ routeHeard (now (octets .entry)) answer ⌝ }
+{
+    if is_by(Refusal::Taken, answer) | is_by(Refusal::Buffer, answer) {
+        return route_read(octets);
+    }
+    if (answer.word == REFUSED) & !is_by(Refusal::Stranger, answer) {
+        NO_FRAME
+    } else {
+        route_in(octets)
+    }
+}
+
+// The answer to a frame that was heard. All but 6 and 11 tell whether it was read, so that it need not be read again.
+pub fn tell_heard(answer: Answer, octets: &[u8]) -> Answer
+    ensures { λ r. ⌜ r ≡ withFrame answer (routeHeard (now (octets .entry)) answer) ⌝ }
+{
+    let frame = route_heard(answer, octets);
+    Answer { frame, ..answer }
+}
+
+// The answer to an asking, whose frame stands at the front of the output.
+pub fn tell_written(answer: Answer, output: &[u8]) -> Answer
+    ensures { λ r. ⌜ r ≡ writtenTold (now (output .entry)) answer ⌝ }
+{
+    if answer.word == FRAME {
+        let frame = route_in(output);
+        Answer { frame, ..answer }
+    } else {
+        answer
+    }
+}
