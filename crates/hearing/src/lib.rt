@@ -93,7 +93,7 @@ fn participant_hears(
     let number = station.own.number;
     let answer = Heard::Cyclic(hearing_token::outcome_of(number, station.view, frame, outcome));
     let view = hearing_token::view_heard(station.view, frame);
-    let station = phases::restart(
+    let station = phases_participating::restart(
         station,
         members::clear(members, frame.source),
         view,
