@@ -1,7 +1,6 @@
 // The two areas of the common memory, and a station's parts of them.
 ghost use mathlib.Core.Path.{_≡_};
 ghost use Rattle.area.specs.Areas.{extentOf, placeOf, inArea, inRange, spanOf};
-ghost use Rattle.area.specs.Overlap.{partsOverlap, areasOverlap};
 
 pub enum Area {
     One,
@@ -85,19 +84,4 @@ pub fn span_of(area: Area, part: Part) -> Span
         start: extent.start + 2 * part.address as usize,
         length: 2 * part.size as usize,
     }
-}
-
-pub fn parts_overlap(a: Part, b: Part) -> bool
-    ensures { λ r. ⌜ r ≡ partsOverlap a b ⌝ }
-{
-    let filled = (0 < a.size) & (0 < b.size);
-    let before = (a.address as usize) < b.address as usize + b.size as usize;
-    let after = (b.address as usize) < a.address as usize + a.size as usize;
-    filled & (before & after)
-}
-
-pub fn areas_overlap(a: Areas, b: Areas) -> bool
-    ensures { λ r. ⌜ r ≡ areasOverlap a b ⌝ }
-{
-    parts_overlap(a.one, b.one) | parts_overlap(a.two, b.two)
 }

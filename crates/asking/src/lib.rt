@@ -43,7 +43,7 @@ fn write(fields: Fields, block: &[u8], output: &mut [u8]) -> usize
     ensures { λ r. ⌜ r ≡ wholeLength fields ⌝ }
     ensures { λ _. ⌜ now (output .exit) ≡ outputOf fields (now (block .entry)) (now (output .entry)) ⌝ }
 {
-    match frame_writing::write_frame(fields, block, output) {
+    match frame_whole_writing::write_frame(fields, block, output) {
         Written::Octets(octets) => octets,
         Written::Refused(_) => 0,
     }
@@ -104,7 +104,7 @@ fn send(station: Station, memory: &[u8], turn: &mut [u8], output: &mut [u8]) -> 
         ),
         Phase::Startup => send_bare(request_sent(station), request_fields(own), output),
         Phase::Joining => send_bare(
-            phases::begin(own, members, station.view),
+            phases_participating::begin(own, members, station.view),
             request_fields(own),
             output,
         ),

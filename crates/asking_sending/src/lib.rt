@@ -13,7 +13,7 @@ ghost use Rattle.frame_reading.specs.Reading.{dataSize};
 ghost use Rattle.station.specs.Rules.Asking.{placedIn, nextFields, turnFor};
 ghost use Rattle.frame_writing.specs.Writing.{wholeLength, fixed, outputOf};
 
-// Writes the frame of a block that has its data in front of `octets`: what `frame_writing::write_frame` would write, without a struct in memory.
+// Writes the frame of a block that has its data in front of `octets`: what `frame_whole_writing::write_frame` would write, without a struct in memory.
 fn write_block(fields: Fields, octets: &[u8], output: &mut [u8]) -> usize
     requires { ⌜ fixed fields ≡ fields ⌝ }
     requires { ⌜ dataSize fields ≡ fields .size ⌝ }

@@ -27,5 +27,8 @@ pub fn show(core: Core) -> Shown
     ensures { λ r. ⌜ r ≡ figureNumbers (figureIn core) ⌝ }
 {
     let panel = core.panel;
-    boundary_figure::figure_shown(phases::figure_in(boundary_core::phase_of(core.phase), panel))
+    boundary_figure::figure_shown(phases_participating::figure_in(
+        boundary_core::phase_of(core.phase),
+        panel,
+    ))
 }

@@ -33,7 +33,7 @@ fn take_next(line: Gathered, part: &[u8], at: usize, frame: &mut [u8], text: &mu
     ensures { λ r. ⌜ r .ended ≡ ended (now (part .entry)) at (r .at) ⌝ }
     ensures { λ r. ⌜ (at < length (now (part .entry)) → Forward (now (part .entry)) at (r .at)) ⌝ }
 {
-    let scanned = decode_line::scan(line, part, at, frame);
+    let scanned = decode_scanning::scan(line, part, at, frame);
     let rest = scanned.gathered;
     let to = scanned.next;
     if scanned.ended {

@@ -1,7 +1,7 @@
 // Listing a station.
 use area::Areas;
 use area::Part;
-use area::areas_overlap;
+use area_overlap::areas_overlap;
 use members::Entry;
 use members::Members;
 use units::Milliseconds;

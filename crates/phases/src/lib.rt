@@ -1,17 +1,13 @@
-// The state of a station at the beginning of each phase, and what the panel shows; with the parts of a state and the waits.
-use members::Members;
-use panel::Figure;
-use panel::Panel;
-pub use state_parts::holds;
-pub use state_parts::is_off;
-pub use state_parts::is_participating;
+// The state of a station that is off, and at the beginning of a phase with an empty list; with the parts of a state and the waits.
 pub use state_parts::no_areas;
 pub use state_parts::nothing;
 pub use state_parts::place_kept;
 pub use state_parts::taken_if;
-pub use state_parts::takes;
 pub use state_parts::without;
-use station::Gathering;
+pub use state_tests::holds;
+pub use state_tests::is_off;
+pub use state_tests::is_participating;
+pub use state_tests::takes;
 use station::Phase;
 use station::Settings;
 use station::Station;
@@ -24,12 +20,8 @@ pub use waits::listening_time;
 pub use waits::longest_watch;
 pub use waits::number_wait;
 pub use waits::watch_ticks;
-ghost use Rattle.laws.specs.Usual.{_≡_, cond};
-ghost use Rattle.panel.specs.Panel.{figureOf};
-ghost use Rattle.panel.specs.declared.Figure.the-variants.{Nothing};
-ghost use Rattle.station.specs.Rules.Showing.{figureShown};
-ghost use Rattle.station.specs.Rules.State.{isParticipating, fresh as freshOf, stopped as stoppedOf, never as neverOf, begun};
-ghost use Rattle.station.specs.Rules.Token.{restarted};
+ghost use Rattle.laws.specs.Usual.{_≡_};
+ghost use Rattle.station.specs.Rules.State.{fresh as freshOf, stopped as stoppedOf, never as neverOf};
 ghost use Rattle.station.specs.declared.Phase.the-variants.{Off};
 ghost use Rattle.frame_writing.specs.Writing.{noAreas, noWatch};
 
@@ -79,75 +71,4 @@ pub fn never() -> Station
     ensures { λ r. ⌜ r ≡ neverOf ⌝ }
 {
     off(0)
-}
-
-// A participant whose watch restarts, with another list, view and gathering.
-pub fn restart(
-    station: Station,
-    members: Members,
-    view: u8,
-    gathering: Gathering,
-    panel: Panel,
-) -> Station
-    ensures { λ r. ⌜ r ≡ restarted station members view gathering panel ⌝ }
-{
-    let own = station.own;
-    let waited = station.waited;
-    let number = own.number;
-    let block = place_kept(view, number, station.block);
-    let elapsed = Ticks(0);
-    let panel = taken_if(takes(number, station.view, view), panel);
-    Station {
-        phase: Phase::Participating,
-        own,
-        members,
-        elapsed,
-        waited,
-        rounds: station.rounds,
-        sent: station.sent,
-        view,
-        block,
-        gathering,
-        panel,
-    }
-}
-
-// We begin to participate.
-pub fn begin(own: Settings, members: Members, view: u8) -> Station
-    ensures { λ r. ⌜ r ≡ begun own members view ⌝ }
-{
-    let gathering = nothing();
-    let panel = taken_if(view == own.number, panel::blank());
-    Station {
-        phase: Phase::Participating,
-        own,
-        members,
-        elapsed: Ticks(0),
-        waited: Ticks(0),
-        rounds: 0,
-        sent: false,
-        view,
-        block: 0,
-        gathering,
-        panel,
-    }
-}
-
-// What the panel shows in a phase.
-pub fn figure_in(phase: Phase, panel: Panel) -> Figure
-    ensures { λ r. ⌜ r ≡ cond (isParticipating phase) (figureOf panel) Nothing ⌝ }
-{
-    if is_participating(phase) {
-        panel::figure_of(panel)
-    } else {
-        Figure::Nothing
-    }
-}
-
-pub fn show(station: Station) -> Figure
-    ensures { λ r. ⌜ r ≡ figureShown station ⌝ }
-{
-    let phase = station.phase;
-    let panel = station.panel;
-    figure_in(phase, panel)
 }

@@ -8,7 +8,7 @@ use replay_words::number_at;
 use replay_words::same;
 use replay_words::word_end;
 use station::Settings;
-use text_hexadecimal::size_of;
+use text_octets::size_of;
 use units::Milliseconds;
 ghost use mathlib.Core.Path.{_≡_};
 ghost use Rattle.replay_words.specs.Words.{wordsBehind};

@@ -1,7 +1,7 @@
 // What a command does to a station and its buffers, and the line that is answered, which is written in front of a lent answer.
 use replay_commands::Command;
 use replay_commands::Peek;
-use replay_reply_parts::part_of;
+use replay_reply_octets::part_of;
 use starting::Switching;
 use station::Station;
 use ticking::Ticking;
@@ -74,7 +74,7 @@ fn hear(
     ensures { λ _. ⌜ now (answer .exit) ≡ pasted (now (answer .entry)) 0 (heardText (hearOf station (octetsOf (now (digits .entry))) (now (memory .entry)) (now (assembly .entry)) .answer)) ⌝ }
 {
     let mut octets = [0u8; 1121];
-    let count = text_hexadecimal::unspell(digits, &mut octets);
+    let count = text_octets::unspell(digits, &mut octets);
     let hearing = hearing::hear(station, &octets[0..count], memory, assembly);
     let station = hearing.station;
     let heard = hearing.answer;
@@ -107,7 +107,7 @@ fn write(at: usize, digits: &[u8], memory: &mut [u8])
     ensures { λ _. ⌜ now (memory .exit) ≡ pokedBy (now (memory .entry)) at (octetsOf (now (digits .entry))) ⌝ }
 {
     if at < memory.len() {
-        text_hexadecimal::unspell(digits, &mut memory[at..]);
+        text_octets::unspell(digits, &mut memory[at..]);
     }
 }
 
@@ -185,7 +185,7 @@ pub fn perform(
         Command::Ask => ask(station, memory, turn, frame, answer),
         Command::Panel => kept(
             station,
-            replay_reply_shown::put_panel(phases::show(station), answer),
+            replay_reply_shown::put_panel(phases_participating::show(station), answer),
         ),
         Command::Poke(octets) => kept(
             station,

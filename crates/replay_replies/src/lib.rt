@@ -1,8 +1,8 @@
 // The line that `replay` prints for what a station answers to `start`, `stop`, `hear` and `ask`, written in front of a lent output. Each function
 // answers the line's length.
+use replay_reply_octets::part_of;
+use replay_reply_octets::put_hex;
 use replay_reply_outcome::put_token;
-use replay_reply_parts::part_of;
-use replay_reply_parts::put_hex;
 use replay_reply_parts::put_line;
 use replay_reply_parts::put_mark;
 use replay_reply_parts::put_word;

@@ -1,9 +1,6 @@
 // The parts that the lines of `replay` are put together from. A part that has a place `at` in the output is written from there on, and the
 // answer is the octet behind it.
-mod hex;
-
-pub use hex::put_hex;
-ghost use Rattle.laws.specs.Usual.{_≡_, [], _∷_, _+_, _≤_, length, take, drop};
+ghost use Rattle.laws.specs.Usual.{_≡_, [], _∷_, _+_, _≤_, length};
 ghost use Rattle.copying.specs.Pasted.{pasted};
 ghost use Rattle.text.specs.Decimal.{decimalOf};
 ghost use Rattle.replay_reply_parts.specs.Lines.{ended};
@@ -34,20 +31,6 @@ pub fn put_number(mark: u8, number: u32, output: &mut [u8], at: usize) -> usize
 {
     let next = put_mark(mark, output, at);
     text::put_decimal(number, output, next)
-}
-
-// The octets from `at` on, at most `count` of them.
-pub fn part_of(octets: &[u8], at: usize, count: usize) -> &[u8]
-    ensures { λ r. ⌜ now r ≡ take count (drop at (now (octets .entry))) ⌝ }
-{
-    if octets.len() < at {
-        return &octets[0..0];
-    }
-    if octets.len() - at < count {
-        return &octets[at..];
-    }
-    let end = at + count;
-    &octets[at..end]
 }
 
 // Writes a whole line in front of the output, and answers its length.

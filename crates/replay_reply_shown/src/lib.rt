@@ -1,7 +1,7 @@
 // The lines that `replay` prints where it only looks: the panel's text, and octets of the common memory. Each is written in front of a lent
 // output, and each function answers the line's length.
 use panel::Figure;
-use replay_reply_parts::put_hex;
+use replay_reply_octets::put_hex;
 use replay_reply_parts::put_line;
 use replay_reply_parts::put_mark;
 ghost use Rattle.laws.specs.Usual.{_≡_, _+_, _*_, _≤_, length};

@@ -46,7 +46,7 @@ pub fn put_step(stepped: Stepped, output: &mut [u8]) -> usize
     let numbers = [
         stepped.from as u32,
         stepped.to as u32,
-        settle_views::different_views(ring),
+        settle_agreement::different_views(ring),
     ];
     put_in(&word, &numbers, output)
 }

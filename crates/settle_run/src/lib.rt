@@ -51,7 +51,7 @@ pub fn step(ring: Ring) -> Stepped
 fn is_ring(ring: Ring) -> bool
     ensures { λ r. ⌜ r ≡ isRing ring ⌝ }
 {
-    (settle_views::first_unlisted(ring) == 0) & (ring.views[0] == 0)
+    (settle_agreement::first_unlisted(ring) == 0) & (ring.views[0] == 0)
 }
 
 // How many steps a run is given.
@@ -65,7 +65,7 @@ fn limit(ring: Ring) -> u32
 fn is_over(ring: Ring, left: u32) -> bool
     ensures { λ r. ⌜ r ≡ over ring left ⌝ }
 {
-    (left == 0) | (settle_views::different_views(ring) <= 1)
+    (left == 0) | (settle_agreement::different_views(ring) <= 1)
 }
 
 pub fn settle(ring: Ring) -> Settled
@@ -90,6 +90,6 @@ pub fn settle(ring: Ring) -> Settled
     Settled {
         passes,
         silences,
-        views: settle_views::different_views(now),
+        views: settle_agreement::different_views(now),
     }
 }

@@ -1,6 +1,6 @@
 // A ring of token views alone, and what is looked up in it.
 ghost use Rattle.laws.specs.Usual.{_≡_, length};
-ghost use Rattle.settle_views.specs.Views.{stationsOf, viewsOf, smallestHolder, differentViews, unlistedIn};
+ghost use Rattle.settle_views.specs.Views.{stationsOf, viewsOf, smallestHolder};
 
 // The view of each station number, 0 where no such station is listed.
 pub struct Ring {
@@ -34,45 +34,6 @@ pub fn smallest_holder(ring: Ring) -> u8
             return number as u8;
         }
         number += 1;
-    }
-    0
-}
-
-// The number of different views. From the last station to the first, each view that was not seen so far is one more.
-pub fn different_views(ring: Ring) -> u32
-    ensures { λ r. ⌜ r ≡ differentViews (stationsOf ring) (viewsOf ring) ⌝ }
-{
-    let views = ring.views;
-    let mut seen = [false; 256];
-    let mut count: u32 = 0;
-    let mut number: usize = 256;
-    while 0 < number {
-        number -= 1;
-        let view = views[number] as usize;
-        if (view != 0) & !seen[view] {
-            seen[view] = true;
-            count += 1;
-        }
-    }
-    count
-}
-
-// The line, counted from 1 in the order of the stations, of the first station whose view is not listed, or 0 if there is none.
-pub fn first_unlisted(ring: Ring) -> u32
-    ensures { λ r. ⌜ r ≡ unlistedIn ring ⌝ }
-{
-    let views = ring.views;
-    let mut line: u32 = 1;
-    let mut number: usize = 0;
-    while number < 256 {
-        let view = views[number] as usize;
-        number += 1;
-        if view != 0 {
-            if views[view] == 0 {
-                return line;
-            }
-            line += 1;
-        }
     }
     0
 }

@@ -58,7 +58,7 @@ fn start_up(own: Settings, members: Members) -> Station
         return phases::fresh(Phase::Listening, own);
     }
     let smallest = members_searching::smallest(own.number, members);
-    phases::begin(own, members, smallest)
+    phases_participating::begin(own, members, smallest)
 }
 
 fn startup_tick(station: Station, elapsed: Ticks) -> Station
@@ -115,7 +115,7 @@ fn watch_ended(station: Station) -> Station
     let panel = station.panel;
     let next = members_searching::next_after(own.number, members, view);
     let gathering = left(station);
-    phases::restart(
+    phases_participating::restart(
         station,
         members::miss(members, view),
         next,

@@ -16,7 +16,7 @@ add-result : tie.Need-add-result
 add-result c = search needs
 
 returns : tie.Need-returns
-returns c = cc
+returns c = rw (c .before .before .before .extent-of .ensures)
 
 pub in-area-spec : {M : Type 1} → statement M
 in-area-spec = tie.close (tie.spec extent-of-requires cast-result cast-result-2 add-result returns)

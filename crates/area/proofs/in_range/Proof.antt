@@ -1,5 +1,5 @@
 -- `area::in_range` meets its contract.
-use borrow.Author.Needs.{needs}
+use Rattle.laws.specs.Usual.{ap₂, _&&_, needs}
 use Rattle.area.proofs.in_range.Statement.{statement}
 use Rattle.area.proofs.in_range.Tie as tie
 
@@ -10,7 +10,7 @@ in-area-requires-2 : tie.Need-in-area-requires-2
 in-area-requires-2 c κs = search needs
 
 returns : tie.Need-returns
-returns c = cc
+returns c = ap₂ _&&_ (c .before .in-area .ensures) (c .in-area2 .ensures)
 
 pub in-range-spec : {M : Type 1} → statement M
 in-range-spec = tie.close (tie.spec in-area-requires in-area-requires-2 returns)

@@ -22,7 +22,7 @@ header-part-requires : tie.Need-header-part-requires
 header-part-requires c κs = search needs
 
 returns : tie.Need-returns
-returns c = cc
+returns c = rw (c .before .before .before .before .before .before .blocks2 .ensures, c .before .before .block-length .ensures, c .header-part .ensures)
 
 pub is-blocked-spec : {M : Type 1} → statement M
 is-blocked-spec =

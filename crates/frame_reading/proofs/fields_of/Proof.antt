@@ -39,7 +39,8 @@ shared-slice-read-t21 c = search needs
 
 returns : tie.Need-returns
 unfolding fieldsOf
-returns c = cc
+returns c =
+    rw (c .before .before .before .before .before .before .before .before .before .before .long-at .ensures, c .before .before .before .before .before .before .before .word-at .ensures, c .before .before .before .before .before .before .word-at2 .ensures, c .before .before .before .before .before .word-at3 .ensures, c .before .before .before .before .word-at4 .ensures, c .before .word-at5 .ensures)
 
 pub fields-of-spec : {M : Type 1} → statement M
 fields-of-spec =

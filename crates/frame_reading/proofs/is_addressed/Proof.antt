@@ -1,5 +1,5 @@
 -- `frame_reading::is_addressed` meets its contract.
-use borrow.Author.Needs.{needs}
+use Rattle.laws.specs.Usual.{ap₂, Bool, not, _&&_, _||_, needs}
 use Rattle.frame_reading.proofs.is_addressed.Statement.{statement}
 use Rattle.frame_reading.proofs.is_addressed.Tie as tie
 
@@ -13,7 +13,8 @@ is-station-requires-2 : tie.Need-is-station-requires-2
 is-station-requires-2 c κs = search needs
 
 returns : tie.Need-returns
-returns c = cc
+returns c =
+    ap₂ _&&_ (c .before .before .is-station .ensures) (ap₂ (λ (token taker : Bool). not token || taker) (c .before .is-token .ensures) (c .is-station2 .ensures))
 
 pub is-addressed-spec : {M : Type 1} → statement M
 is-addressed-spec =

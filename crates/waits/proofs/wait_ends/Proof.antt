@@ -4,7 +4,7 @@ use Rattle.waits.proofs.wait_ends.Statement.{statement}
 use Rattle.waits.proofs.wait_ends.Tie as tie
 use Rattle.waits.proofs.wait_ends.Reads as reads
 use Rattle.waits.proofs.wait_ends.Lts as lts
-use Rattle.waits.proofs.number_wait.Reads as number-wait-reads
+use Rattle.waits_lengths.proofs.number_wait.Reads as number-wait-reads
 
 number-wait-requires : tie.Need-number-wait-requires
 number-wait-requires c κs = search needs
