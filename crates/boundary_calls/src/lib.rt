@@ -81,6 +81,16 @@ fn hear_read(
     ensures { λ _. ⌜ now (assembly .exit) ≡ hearOf (stationIn core (now (listed .entry)) (now (areas .entry)) (now (watch .entry)) (now (misses .entry))) (now (octets .entry)) (now (memory .entry)) (now (assembly .entry)) .assembly ⌝ }
     ensures { λ _. ⌜ membersIn (now (listed .exit)) (now (areas .exit)) (now (watch .exit)) (now (misses .exit)) ≡ hearOf (stationIn core (now (listed .entry)) (now (areas .entry)) (now (watch .entry)) (now (misses .entry))) (now (octets .entry)) (now (memory .entry)) (now (assembly .entry)) .station .members ⌝ }
 {
+    let lent = (memory.len() == area::MEMORY_OCTETS) & (assembly.len() == area::MEMORY_OCTETS);
+    if !lent {
+        return boundary_refused::refuse(core, Refusal::Buffer);
+    }
+    if boundary_refused::is_taken(core, header) {
+        if core.phase == boundary_core::PARTICIPATING {
+            return boundary_refused::refuse(core, Refusal::Taken);
+        }
+        return boundary_whole::hear(core, listed, areas, watch, misses, octets, memory, assembly);
+    }
     match frame_body::read_body(octets.len(), header) {
         Read::Frame(frame) => hear_frame(
             core,
@@ -93,16 +103,7 @@ fn hear_read(
             memory,
             assembly,
         ),
-        Read::Refused(_) => boundary_whole::hear(
-            core,
-            listed,
-            areas,
-            watch,
-            misses,
-            octets,
-            memory,
-            assembly,
-        ),
+        Read::Refused(refusal) => boundary_refused::refuse(core, refusal),
     }
 }
 
