@@ -9,15 +9,17 @@ pub use boundary_showing::show;
 use frame::Fields;
 use frame::Refusal;
 use frame_reading::Read;
-ghost use mathlib.Core.Path.{_≡_};
+ghost use Rattle.laws.specs.Usual.{_≡_, true, false};
 ghost use Rattle.boundary_core.specs.Crossing.{coreOf, stationIn};
 ghost use Rattle.boundary_answers.specs.Numbers.{heardAnswer, askedAnswer};
 ghost use Rattle.boundary_lists.specs.Lists.{membersIn};
+ghost use Rattle.boundary_refused.specs.Taken.{isTakenBy};
 ghost use Rattle.frame_reading.specs.Reading.{readHeaderOf, readOf};
 ghost use Rattle.frame_reading.specs.declared.Read.the-variants as reads;
 ghost use Rattle.station.specs.Rules.Asking.{askOf};
-ghost use Rattle.station.specs.Rules.Hearing.{hearOf};
+ghost use Rattle.station.specs.Rules.Hearing.{lentRight, hearOf};
 
+// A frame that was read, and that numbers 6 to 8 do not refuse.
 fn hear_frame(
     core: Core,
     listed: &mut [bool; 256],
@@ -29,6 +31,8 @@ fn hear_frame(
     memory: &mut [u8],
     assembly: &mut [u8],
 ) -> Outcome
+    requires { ⌜ isTakenBy core frame ≡ false ⌝ }
+    requires { ⌜ lentRight (now memory) (now assembly) ≡ true ⌝ }
     requires { ⌜ readOf (now octets) ≡ reads.Frame frame ⌝ }
     ensures { λ r. ⌜ r .core ≡ coreOf (hearOf (stationIn core (now (listed .entry)) (now (areas .entry)) (now (watch .entry)) (now (misses .entry))) (now (octets .entry)) (now (memory .entry)) (now (assembly .entry)) .station) ⌝ }
     ensures { λ r. ⌜ r .answer ≡ heardAnswer (hearOf (stationIn core (now (listed .entry)) (now (areas .entry)) (now (watch .entry)) (now (misses .entry))) (now (octets .entry)) (now (memory .entry)) (now (assembly .entry)) .answer) ⌝ }
@@ -40,8 +44,7 @@ fn hear_frame(
     let destination = frame.destination;
     let sender = boundary_lists::is_listed(listed, source);
     let taker = boundary_lists::is_listed(listed, destination);
-    let lent = (memory.len() == area::MEMORY_OCTETS) & (assembly.len() == area::MEMORY_OCTETS);
-    if boundary_participant::is_accepted(core, sender, taker, frame) & lent {
+    if boundary_participant::is_accepted(core, sender, taker, frame) {
         return boundary_in_place::hear(
             core,
             listed,
@@ -56,10 +59,20 @@ fn hear_frame(
             assembly,
         );
     }
-    if boundary_refused::is_strange(core, sender, taker, frame) & lent {
+    if boundary_refused::is_strange(core, sender, taker, frame) {
         return boundary_refused::refuse(core, Refusal::Stranger);
     }
-    boundary_whole::hear(core, listed, areas, watch, misses, octets, memory, assembly)
+    boundary_entering::hear(
+        core,
+        listed,
+        areas,
+        watch,
+        misses,
+        frame,
+        octets,
+        memory,
+        assembly,
+    )
 }
 
 // A frame whose header was read.
@@ -81,6 +94,16 @@ fn hear_read(
     ensures { λ _. ⌜ now (assembly .exit) ≡ hearOf (stationIn core (now (listed .entry)) (now (areas .entry)) (now (watch .entry)) (now (misses .entry))) (now (octets .entry)) (now (memory .entry)) (now (assembly .entry)) .assembly ⌝ }
     ensures { λ _. ⌜ membersIn (now (listed .exit)) (now (areas .exit)) (now (watch .exit)) (now (misses .exit)) ≡ hearOf (stationIn core (now (listed .entry)) (now (areas .entry)) (now (watch .entry)) (now (misses .entry))) (now (octets .entry)) (now (memory .entry)) (now (assembly .entry)) .station .members ⌝ }
 {
+    let lent = (memory.len() == area::MEMORY_OCTETS) & (assembly.len() == area::MEMORY_OCTETS);
+    if !lent {
+        return boundary_refused::refuse(core, Refusal::Buffer);
+    }
+    if boundary_refused::is_taken(core, header) {
+        if core.phase == boundary_core::PARTICIPATING {
+            return boundary_refused::refuse(core, Refusal::Taken);
+        }
+        return boundary_whole::hear(core, listed, areas, watch, misses, octets, memory, assembly);
+    }
     match frame_body::read_body(octets.len(), header) {
         Read::Frame(frame) => hear_frame(
             core,
@@ -93,16 +116,7 @@ fn hear_read(
             memory,
             assembly,
         ),
-        Read::Refused(_) => boundary_whole::hear(
-            core,
-            listed,
-            areas,
-            watch,
-            misses,
-            octets,
-            memory,
-            assembly,
-        ),
+        Read::Refused(refusal) => boundary_refused::refuse(core, refusal),
     }
 }
 

@@ -1,4 +1,4 @@
-// A tick: on the core alone where it only counts, else on the whole station.
+// A tick: on the core alone where it only counts, with the list in place where it ends a watch, else on the whole station.
 use boundary_core::Core;
 use boundary_core::Outcome;
 use station::Ticked;
@@ -36,6 +36,9 @@ pub fn tick(
             core,
             answer: boundary_core::ticked_answer(Ticked::Off),
         };
+    }
+    if core.phase == boundary_core::PARTICIPATING {
+        return boundary_silence::tick(core, listed, areas, watch, misses);
     }
     boundary_running::tick(core, listed, areas, watch, misses)
 }

@@ -4,8 +4,6 @@ use boundary_answers::cyclic;
 use boundary_core::Core;
 use boundary_core::Outcome;
 use frame::Fields;
-use station::Gathering;
-use units::Ticks;
 ghost use Rattle.laws.specs.Usual.{_≡_, true, length};
 ghost use Rattle.frame.specs.Codes.{isCyclic};
 ghost use Rattle.hearing_token.specs.Parts.{outcomeBy};
@@ -16,24 +14,6 @@ ghost use Rattle.frame_reading.specs.declared.Read.the-variants as reads;
 ghost use Rattle.station.specs.Rules.Data.{gatheredFrom};
 ghost use Rattle.station.specs.Rules.Hearing.{lentRight};
 ghost use Rattle.station.specs.Rules.Token.{viewHeard};
-
-fn restart(core: Core, view: u8, gathering: Gathering) -> Core
-    ensures { λ r. ⌜ r ≡ restartedCore core view gathering ⌝ }
-{
-    let number = core.own.number;
-    let counter = core.panel;
-    let block = phases::place_kept(view, number, core.block);
-    let panel = phases::taken_if(phases::takes(number, core.view, view), counter);
-    Core {
-        phase: boundary_core::PARTICIPATING,
-        elapsed: Ticks(0),
-        view,
-        block,
-        gathering,
-        panel,
-        ..core
-    }
-}
 
 // Hears an accepted frame, whose source is listed with these areas. Its misses are cleared apart.
 pub fn hear_accepted(
@@ -59,6 +39,6 @@ pub fn hear_accepted(
     let outcome = stored.outcome;
     let answer = cyclic(hearing_token::outcome_of(number, core.view, frame, outcome));
     let view = hearing_token::view_heard(core.view, frame);
-    let core = restart(core, view, after);
+    let core = boundary_participant::restart(core, view, after);
     Outcome { core, answer }
 }

@@ -1,9 +1,10 @@
-// A participant's tick, the test of a frame heard and its block sent, on its core alone.
+// A participant's tick, the test of a frame heard, its block sent and its watch restarted, on its core alone.
 use boundary_core::Core;
 use frame::Fields;
+use station::Gathering;
 use units::Ticks;
 ghost use Rattle.laws.specs.Usual.{_≡_, true};
-ghost use Rattle.boundary_participant.specs.Quick.{isQuiet, quietAfter, isAccepted, holdsBlock, sentCore};
+ghost use Rattle.boundary_participant.specs.Quick.{isQuiet, quietAfter, isAccepted, holdsBlock, sentCore, restartedCore};
 
 pub fn is_quiet(core: Core) -> bool
     ensures { λ r. ⌜ r ≡ isQuiet core ⌝ }
@@ -61,6 +62,25 @@ pub fn sent_block(core: Core, next: u8) -> Core
         elapsed: Ticks(0),
         view: after.view,
         block: after.block,
+        panel,
+        ..core
+    }
+}
+
+// The watch restarts, with another view and gathering.
+pub fn restart(core: Core, view: u8, gathering: Gathering) -> Core
+    ensures { λ r. ⌜ r ≡ restartedCore core view gathering ⌝ }
+{
+    let number = core.own.number;
+    let counter = core.panel;
+    let block = phases::place_kept(view, number, core.block);
+    let panel = phases::taken_if(phases::takes(number, core.view, view), counter);
+    Core {
+        phase: boundary_core::PARTICIPATING,
+        elapsed: Ticks(0),
+        view,
+        block,
+        gathering,
         panel,
         ..core
     }

@@ -19,6 +19,11 @@ header-refused station octets memory assembly refusal e = by (lentRight memory a
     by true = rw e
     by false = refl
 
+-- 11 alone
+pub unlent : (station : Station) (octets memory assembly : List ℕ) → lentRight memory assembly ≡ false
+    → hearOf station octets memory assembly ≡ refused station memory assembly Buffer
+unlent station octets memory assembly e = rw e
+
 -- a frame that is read in two parts
 pub read-on : (octets : List ℕ) (header frame : Fields) → readHeaderOf octets ≡ Frame header → readBodyOf (length octets) header ≡ Frame frame
     → readOf octets ≡ Frame frame

@@ -10,6 +10,7 @@ ghost use Rattle.laws.specs.Usual.{_≡_};
 ghost use Rattle.boundary_answers.specs.Numbers.{refusedAnswer};
 ghost use Rattle.boundary_refused.specs.Due.{dueCore, keptCore, askRefusal};
 ghost use Rattle.boundary_refused.specs.Unheard.{heardRefusal};
+ghost use Rattle.boundary_refused.specs.Taken.{isTakenBy};
 ghost use Rattle.boundary_refused.specs.Strange.{isStrange};
 
 pub fn is_due(core: Core) -> bool
@@ -47,6 +48,13 @@ pub fn heard_refusal(lent: bool, refusal: Refusal) -> Refusal
     if lent { refusal } else { Refusal::Buffer }
 }
 
+// Number 6: the source is our own number, which an off station does not ask.
+pub fn is_taken(core: Core, frame: Fields) -> bool
+    ensures { λ r. ⌜ r ≡ isTakenBy core frame ⌝ }
+{
+    !state_parts::is_off(phase_of(core.phase)) & (frame.source == core.own.number)
+}
+
 // Whether a participant refuses a cyclic frame that was read by number 9, by whether its source and its destination are listed.
 pub fn is_strange(core: Core, source: bool, destination: bool, frame: Fields) -> bool
     ensures { λ r. ⌜ r ≡ isStrange core source destination frame ⌝ }
@@ -58,13 +66,22 @@ pub fn is_strange(core: Core, source: bool, destination: bool, frame: Fields) ->
     cyclic & ((frame.source != number) & !known)
 }
 
+// Nothing altered.
+pub fn kept(core: Core) -> Core
+    ensures { λ r. ⌜ r ≡ keptCore core ⌝ }
+{
+    let phase = phase_number(phase_of(core.phase));
+    Core { phase, ..core }
+}
+
 // A refused call: its number alone, and nothing altered.
 pub fn refuse(core: Core, refusal: Refusal) -> Outcome
     ensures { λ r. ⌜ r .core ≡ keptCore core ⌝ }
     ensures { λ r. ⌜ r .answer ≡ refusedAnswer refusal ⌝ }
 {
-    let phase = phase_number(phase_of(core.phase));
     let answer = boundary_core::refused(refusal);
-    let core = Core { phase, ..core };
-    Outcome { core, answer }
+    Outcome {
+        core: kept(core),
+        answer,
+    }
 }

@@ -5,13 +5,11 @@ use members::Members;
 use station::Gathering;
 use station::Phase;
 use station::Station;
-use units::Ticks;
-ghost use Rattle.laws.specs.Usual.{_≡_, cond, _+_, min, ltb};
-ghost use Rattle.frame.specs.Codes.{isToken};
+ghost use Rattle.laws.specs.Usual.{_≡_, cond, ltb};
 ghost use Rattle.members.specs.Listing.{listing};
 ghost use Rattle.station.specs.Rules.Hearing.{requested, enters};
-ghost use Rattle.station.specs.Rules.Starting.{endsRound, joinedBy};
-ghost use Rattle.station.specs.Rules.State.{noTicks, fresh, relisted};
+ghost use Rattle.station.specs.Rules.Starting.{joinedBy};
+ghost use Rattle.station.specs.Rules.State.{fresh, relisted};
 ghost use Rattle.station.specs.declared.Phase.the-variants as phases;
 ghost use Rattle.frame_writing.specs.Writing.{noAreas};
 
@@ -38,22 +36,6 @@ fn request(station: Station, frame: Fields) -> Station
     relist(station, listed, phases::without(frame.source, gathering))
 }
 
-fn ends_round(frame: Fields) -> bool
-    ensures { λ r. ⌜ r ≡ endsRound frame ⌝ }
-{
-    let code = frame.code;
-    frame::is_token(code) & (frame.destination <= frame.source)
-}
-
-fn rounds_after(rounds: u8, frame: Fields) -> u8
-    ensures { λ r. ⌜ r ≡ cond (endsRound frame) (min 3 (rounds + 1)) rounds ⌝ }
-{
-    if !ends_round(frame) {
-        return rounds;
-    }
-    if rounds < 3 { rounds + 1 } else { 3 }
-}
-
 // "Joining learns source, areas and watch time from cyclic frames for three rounds."
 fn learn(station: Station, frame: Fields) -> Members
     ensures { λ r. ⌜ r ≡ cond (ltb (station .rounds) 3) (listing (station .members) (frame .source) (frame .areas) (frame .watch) noAreas) (station .members) ⌝ }
@@ -68,38 +50,14 @@ fn learn(station: Station, frame: Fields) -> Members
     }
 }
 
-// The token detection wait starts afresh at a token frame.
-fn elapsed_after(elapsed: Ticks, frame: Fields) -> Ticks
-    ensures { λ r. ⌜ r ≡ cond (isToken (frame .code)) noTicks elapsed ⌝ }
-{
-    let code = frame.code;
-    if frame::is_token(code) {
-        Ticks(0)
-    } else {
-        elapsed
-    }
-}
-
-// A token destination is noted.
-fn destination_after(view: u8, frame: Fields) -> u8
-    ensures { λ r. ⌜ r ≡ cond (isToken (frame .code)) (frame .destination) view ⌝ }
-{
-    let code = frame.code;
-    if frame::is_token(code) {
-        frame.destination
-    } else {
-        view
-    }
-}
-
 fn join(station: Station, frame: Fields) -> Station
     ensures { λ r. ⌜ r ≡ joinedBy station frame ⌝ }
 {
     let members = learn(station, frame);
     let before = station.elapsed;
-    let elapsed = elapsed_after(before, frame);
-    let rounds = rounds_after(station.rounds, frame);
-    let view = destination_after(station.view, frame);
+    let elapsed = hearing_joining::elapsed_after(before, frame);
+    let rounds = hearing_joining::rounds_after(station.rounds, frame);
+    let view = hearing_joining::destination_after(station.view, frame);
     Station {
         phase: Phase::Joining,
         members,

@@ -1,14 +1,14 @@
 -- `boundary_calls::hear_frame` meets its contract.
-use Rattle.laws.specs.Usual.{refl, sym, ap, ap₂, _∙_, Bool, _<_, arith, needs}
-use Rattle.boundary_answers.specs.Numbers.{heardAnswer}
-use Rattle.boundary_core.specs.Crossing.{coreOf}
+use Rattle.laws.specs.Usual.{refl, sym, ap₂, _∙_, Bool, _<_, arith, needs}
+use Rattle.boundary_core.specs.Crossing.{stationOf}
+use Rattle.boundary_entering.specs.Entering.{not-for-participant}
 use Rattle.boundary_lists.specs.Laws.{listed-in}
 use Rattle.boundary_lists.specs.Lists.{membersIn}
+use Rattle.boundary_refused.specs.Leaves.{heard-leaves}
 use Rattle.boundary_refused.specs.Strange.{isStrange, strange-heard}
-use Rattle.laws.specs.Tests.{first, second}
-use Rattle.station.specs.Rules.Hearing.{Hearing, lentRight}
 use Rattle.boundary_calls.proofs.hear_frame.Statement.{statement}
 use Rattle.boundary_calls.proofs.hear_frame.Tie as tie
+use Rattle.boundary_in_place.proofs.hear.Reads as hear-reads′
 
 is-listed-requires : tie.Need-is-listed-requires
 is-listed-requires c κs = search needs
@@ -21,11 +21,9 @@ is-accepted-requires c κs = search needs
 
 hear-requires : tie.Need-hear-requires
 hear-requires c κs =
-    let a = c .before .before .before .before .before .before .before .before .before .before .before .before .before .before .before .args in
-    let accepted = c .before .before .before .before .before .before .before .is-accepted .result in
-    let lent = lentRight (a .memory .now) (a .assembly .now) in
+    let pre = c .before .before .before .before .before .before .before .before .before .before .before .before .before .before .before .pre in
     let told = rw (c .before .before .before .before .before .before .before .before .before .before .is-listed .ensures, c .before .before .before .before .before .before .before .before .is-listed2 .ensures) at (c .before .before .before .before .before .before .before .is-accepted .ensures) in
-    (sym told ∙ first accepted lent (c .before .before .before .before .before .before .if1 .taken), (second accepted lent (c .before .before .before .before .before .before .if1 .taken), (c .before .before .before .before .before .before .before .before .before .before .before .before .before .before .before .pre, (refl, refl))))
+    (sym told ∙ c .before .before .before .before .before .before .if1 .taken, (pre .1 .0, (pre .1 .1, (refl, refl))))
 
 same-length : tie.Need-same-length
 same-length c = search needs
@@ -45,25 +43,22 @@ refuse-requires c κs = search needs
 returns-2 : tie.Need-returns-2
 returns-2 c =
     let a = c .before .before .before .before .before .before .before .before .before .before .before .before .args in
+    let pre = c .before .before .before .before .before .before .before .before .before .before .before .before .pre in
     let frame = a .frame in
     let members = membersIn (a .listed .now) (a .areas .now) (a .watch .now) (a .misses .now) in
-    let lent = lentRight (a .memory .now) (a .assembly .now) in
     let source : frame .source < 256 = omega (arith, c .before .before .before .before .before .before .before .before .before .before .before .before .good .1 .1 .1 .1 .1 .0) in
     let destination : frame .destination < 256 = omega (arith, c .before .before .before .before .before .before .before .before .before .before .before .before .good .1 .1 .1 .1 .1 .0) in
     let sender = c .before .before .before .before .before .before .before .is-listed .ensures ∙ sym (listed-in (a .listed .now) (a .areas .now) (a .watch .now) (a .misses .now) (frame .source) source) in
     let taker = c .before .before .before .before .before .is-listed2 .ensures ∙ sym (listed-in (a .listed .now) (a .areas .now) (a .watch .now) (a .misses .now) (frame .destination) destination) in
     let told = c .before .before .is-strange .ensures ∙ ap₂ (λ (s d : Bool). isStrange (a .core) s d frame) sender taker in
-    let strange = sym told ∙ first (c .before .before .is-strange .result) lent (c .before .if2 .taken) in
-    let law = strange-heard (a .core) members (a .octets .now) (a .memory .now) (a .assembly .now) frame strange (second (c .before .before .is-strange .result) lent (c .before .if2 .taken)) (c .before .before .before .before .before .before .before .before .before .before .before .before .pre) in (
-      c .refuse .ensures .0 ∙ sym (ap (λ (t : Hearing). coreOf (t .station)) law),
-      (
-        c .refuse .ensures .1 ∙ sym (ap (λ (t : Hearing). heardAnswer (t .answer)) law),
-        (sym (ap (λ (t : Hearing). t .memory) law), (sym (ap (λ (t : Hearing). t .assembly) law), sym (ap (λ (t : Hearing). t .station .members) law))),
-      ),
-    )
+    let law = strange-heard (a .core) members (a .octets .now) (a .memory .now) (a .assembly .now) frame (sym told ∙ c .before .if2 .taken) (pre .1 .0) (pre .1 .1) in
+    heard-leaves (stationOf (a .core) members) _ (a .memory .now) (a .assembly .now) _ law _ _ members (c .refuse .ensures .0) (c .refuse .ensures .1) refl
 
 hear-requires-2 : tie.Need-hear-requires-2
-hear-requires-2 c κs = search needs
+hear-requires-2 c κs =
+    let a = c .before .before .before .before .before .before .before .before .before .before .before .before .before .before .before .before .before .args in
+    let pre = c .before .before .before .before .before .before .before .before .before .before .before .before .before .before .before .before .before .pre in
+    (pre .0, (not-for-participant (a .core) _ _ (a .frame) (pre .0) (sym (c .before .before .before .before .before .before .before .before .before .is-accepted .ensures) ∙ c .before .before .before .before .before .before .before .before .if1 .left) (sym (c .before .before .before .before .before .before .before .is-strange .ensures) ∙ c .before .before .before .before .before .before .if2 .left), (pre .1 .0, pre .1 .1)))
 
 same-length-3 : tie.Need-same-length-3
 same-length-3 c = search needs

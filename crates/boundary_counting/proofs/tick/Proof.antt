@@ -58,10 +58,16 @@ returns-3 c =
     )
 
 tick-requires : tie.Need-tick-requires
-tick-requires c κs = search needs
+tick-requires c κs = (c .before .before .before .before .if4 .taken, sym (c .before .before .before .before .before .before .before .before .before .before .before .is-quiet .ensures) ∙ c .before .before .before .before .before .before .before .before .before .before .if1 .left)
 
 returns-4 : tie.Need-returns-4
 returns-4 c = search needs
+
+tick-requires-2 : tie.Need-tick-requires-2
+tick-requires-2 c κs = search needs
+
+returns-5 : tie.Need-returns-5
+returns-5 c = search needs
 
 pub tick-spec : {M : Type 1} → statement M
 tick-spec =
@@ -78,4 +84,6 @@ tick-spec =
     ticked-answer-requires
     returns-3
     tick-requires
-    returns-4)
+    returns-4
+    tick-requires-2
+    returns-5)

@@ -1,7 +1,7 @@
--- `hearing_entering::ends_round` meets its contract.
+-- `hearing_joining::ends_round` meets its contract.
 use borrow.Author.Needs.{needs}
-use Rattle.hearing_entering.proofs.ends_round.Statement.{statement}
-use Rattle.hearing_entering.proofs.ends_round.Tie as tie
+use Rattle.hearing_joining.proofs.ends_round.Statement.{statement}
+use Rattle.hearing_joining.proofs.ends_round.Tie as tie
 
 is-token-requires : tie.Need-is-token-requires
 is-token-requires c κs = search needs

@@ -1,7 +1,7 @@
--- `boundary_heard::restart` meets its contract.
+-- `boundary_participant::restart` meets its contract.
 use borrow.Author.Needs.{needs}
-use Rattle.boundary_heard.proofs.restart.Statement.{statement}
-use Rattle.boundary_heard.proofs.restart.Tie as tie
+use Rattle.boundary_participant.proofs.restart.Statement.{statement}
+use Rattle.boundary_participant.proofs.restart.Tie as tie
 
 place-kept-requires : tie.Need-place-kept-requires
 place-kept-requires c κs = search needs

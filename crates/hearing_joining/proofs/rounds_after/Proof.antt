@@ -1,8 +1,8 @@
--- `hearing_entering::rounds_after` meets its contract.
+-- `hearing_joining::rounds_after` meets its contract.
 use Rattle.laws.specs.Usual.{_≡_, sym, _∙_, _+_, min, arith, needs}
 use borrow.Author.Tests.{not-true, not-false}
-use Rattle.hearing_entering.proofs.rounds_after.Statement.{statement}
-use Rattle.hearing_entering.proofs.rounds_after.Tie as tie
+use Rattle.hearing_joining.proofs.rounds_after.Statement.{statement}
+use Rattle.hearing_joining.proofs.rounds_after.Tie as tie
 
 ends-round-requires : tie.Need-ends-round-requires
 ends-round-requires c κs = search needs

@@ -1,7 +1,7 @@
--- `hearing_entering::elapsed_after` meets its contract.
+-- `hearing_joining::elapsed_after` meets its contract.
 use borrow.Author.Needs.{needs}
-use Rattle.hearing_entering.proofs.elapsed_after.Statement.{statement}
-use Rattle.hearing_entering.proofs.elapsed_after.Tie as tie
+use Rattle.hearing_joining.proofs.elapsed_after.Statement.{statement}
+use Rattle.hearing_joining.proofs.elapsed_after.Tie as tie
 
 is-token-requires : tie.Need-is-token-requires
 is-token-requires c κs = search needs

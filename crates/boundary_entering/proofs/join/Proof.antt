@@ -1,0 +1,21 @@
+-- `boundary_entering::join` meets its contract.
+use Rattle.laws.specs.Usual.{needs}
+use Rattle.boundary_entering.proofs.join.Statement.{statement}
+use Rattle.boundary_entering.proofs.join.Tie as tie
+
+elapsed-after-requires : tie.Need-elapsed-after-requires
+elapsed-after-requires c κs = search needs
+
+rounds-after-requires : tie.Need-rounds-after-requires
+rounds-after-requires c κs = search needs
+
+destination-after-requires : tie.Need-destination-after-requires
+destination-after-requires c κs = search needs
+
+returns : tie.Need-returns
+returns c = rw (c .before .before .before .before .before .before .elapsed-after .ensures, c .before .before .before .before .before .rounds-after .ensures, c .before .before .before .before .destination-after .ensures)
+
+pub join-spec : {M : Type 1} → statement M
+join-spec =
+    tie.close
+    (tie.spec elapsed-after-requires rounds-after-requires destination-after-requires returns)

@@ -1,0 +1,243 @@
+// A frame that is not refused, and that no participant takes as a cyclic one: most leave the list alone, and some list one station in place.
+use area::Areas;
+use boundary_core::Core;
+use boundary_core::Outcome;
+use boundary_core::phase_of;
+use frame::Code;
+use frame::Fields;
+use station::Phase;
+ghost use Rattle.laws.specs.Usual.{_≡_, true, false, cond, ltb};
+ghost use Rattle.boundary_answers.specs.Numbers.{heardAnswer};
+ghost use Rattle.boundary_core.specs.Crossing.{coreOf, stationIn};
+ghost use Rattle.boundary_entering.specs.Effects.{effectOf};
+ghost use Rattle.boundary_entering.specs.Entering.{requestedCore, joinedCore, fallenCore, oursIn, forParticipant};
+ghost use Rattle.boundary_lists.specs.Lists.{membersIn};
+ghost use Rattle.boundary_refused.specs.Taken.{isTakenBy};
+ghost use Rattle.frame_reading.specs.Reading.{readOf};
+ghost use Rattle.frame_reading.specs.declared.Read.the-variants as reads;
+ghost use Rattle.frame_writing.specs.Writing.{noAreas};
+ghost use Rattle.members.specs.Listing.{listing};
+ghost use Rattle.station.specs.Rules.Hearing.{lentRight, hearOf};
+ghost use Rattle.station.specs.declared.Phase.the-variants as phases;
+
+// What becomes of the list: nothing, its station is listed by its request, joining learns its station, or a phase begins with an empty list.
+pub enum Effect {
+    Nothing,
+    Listed,
+    Learned,
+    Begun,
+}
+
+fn listening_effect(code: Code) -> Effect
+    ensures { λ r. ⌜ r ≡ effectOf phases.Listening code ⌝ }
+{
+    match code {
+        Code::Token => Effect::Begun,
+        Code::Cyclic => Effect::Nothing,
+        Code::Request => Effect::Nothing,
+        Code::Trigger => Effect::Begun,
+    }
+}
+
+fn startup_effect(code: Code) -> Effect
+    ensures { λ r. ⌜ r ≡ effectOf phases.Startup code ⌝ }
+{
+    match code {
+        Code::Token => Effect::Begun,
+        Code::Cyclic => Effect::Nothing,
+        Code::Request => Effect::Listed,
+        Code::Trigger => Effect::Nothing,
+    }
+}
+
+fn joining_effect(code: Code) -> Effect
+    ensures { λ r. ⌜ r ≡ effectOf phases.Joining code ⌝ }
+{
+    match code {
+        Code::Token => Effect::Learned,
+        Code::Cyclic => Effect::Learned,
+        Code::Request => Effect::Nothing,
+        Code::Trigger => Effect::Nothing,
+    }
+}
+
+fn participating_effect(code: Code) -> Effect
+    ensures { λ r. ⌜ r ≡ effectOf phases.Participating code ⌝ }
+{
+    match code {
+        Code::Token => Effect::Nothing,
+        Code::Cyclic => Effect::Nothing,
+        Code::Request => Effect::Listed,
+        Code::Trigger => Effect::Nothing,
+    }
+}
+
+fn effect_of(phase: Phase, code: Code) -> Effect
+    ensures { λ r. ⌜ r ≡ effectOf phase code ⌝ }
+{
+    match phase {
+        Phase::Off => Effect::Nothing,
+        Phase::Listening => listening_effect(code),
+        Phase::Startup => startup_effect(code),
+        Phase::Joining => joining_effect(code),
+        Phase::Participating => participating_effect(code),
+    }
+}
+
+// Whether our request has fallen due.
+fn has_fallen(core: Core) -> bool
+    ensures { λ r. ⌜ r ≡ fallenCore core ⌝ }
+{
+    let phase = phase_of(core.phase);
+    let number = core.own.number;
+    let elapsed = core.elapsed;
+    let waited = core.waited;
+    let wait = waits::number_wait(number);
+    match phase {
+        Phase::Off => false,
+        Phase::Listening => false,
+        Phase::Startup => wait.0 <= elapsed.0,
+        Phase::Joining => (core.rounds == 3) & (wait.0 <= waited.0),
+        Phase::Participating => true,
+    }
+}
+
+// Our areas once our request has fallen due, else areas that overlap nothing.
+fn ours_in(core: Core) -> Areas
+    ensures { λ r. ⌜ r ≡ oursIn core ⌝ }
+{
+    let own = core.own;
+    if has_fallen(core) {
+        own.areas
+    } else {
+        state_parts::no_areas()
+    }
+}
+
+// A request that is listed.
+fn request(
+    core: Core,
+    listed: &mut [bool; 256],
+    areas: &mut [u16; boundary_lists::AREA_NUMBERS],
+    watch: &mut [u8; 256],
+    misses: &mut [u8; 256],
+    frame: Fields,
+) -> Core
+    ensures { λ r. ⌜ r ≡ requestedCore core frame ⌝ }
+    ensures { λ _. ⌜ membersIn (now (listed .exit)) (now (areas .exit)) (now (watch .exit)) (now (misses .exit)) ≡ listing (membersIn (now (listed .entry)) (now (areas .entry)) (now (watch .entry)) (now (misses .entry))) (frame .source) (frame .areas) (frame .watch) (oursIn core) ⌝ }
+{
+    let parts = frame.areas;
+    let time = frame.watch;
+    let before = core.gathering;
+    let ours = ours_in(core);
+    boundary_listing::list(
+        listed,
+        areas,
+        watch,
+        misses,
+        frame.source,
+        parts,
+        time,
+        ours,
+    );
+    let gathering = state_parts::without(frame.source, before);
+    let core = boundary_refused::kept(core);
+    Core { gathering, ..core }
+}
+
+// "Joining learns source, areas and watch time from cyclic frames for three rounds."
+fn learn(
+    rounds: u8,
+    listed: &mut [bool; 256],
+    areas: &mut [u16; boundary_lists::AREA_NUMBERS],
+    watch: &mut [u8; 256],
+    misses: &mut [u8; 256],
+    frame: Fields,
+)
+    ensures { λ _. ⌜ membersIn (now (listed .exit)) (now (areas .exit)) (now (watch .exit)) (now (misses .exit)) ≡ cond (ltb rounds 3) (listing (membersIn (now (listed .entry)) (now (areas .entry)) (now (watch .entry)) (now (misses .entry))) (frame .source) (frame .areas) (frame .watch) noAreas) (membersIn (now (listed .entry)) (now (areas .entry)) (now (watch .entry)) (now (misses .entry))) ⌝ }
+{
+    let parts = frame.areas;
+    let time = frame.watch;
+    if rounds < 3 {
+        boundary_listing::list(
+            listed,
+            areas,
+            watch,
+            misses,
+            frame.source,
+            parts,
+            time,
+            state_parts::no_areas(),
+        );
+    }
+}
+
+// What joining notes beside.
+fn join(core: Core, frame: Fields) -> Core
+    ensures { λ r. ⌜ r ≡ joinedCore core frame ⌝ }
+{
+    let before = core.elapsed;
+    let elapsed = hearing_joining::elapsed_after(before, frame);
+    let rounds = hearing_joining::rounds_after(core.rounds, frame);
+    let view = hearing_joining::destination_after(core.view, frame);
+    Core {
+        phase: boundary_core::JOINING,
+        elapsed,
+        rounds,
+        sent: false,
+        view,
+        block: 0,
+        ..core
+    }
+}
+
+pub fn hear(
+    core: Core,
+    listed: &mut [bool; 256],
+    areas: &mut [u16; boundary_lists::AREA_NUMBERS],
+    watch: &mut [u8; 256],
+    misses: &mut [u8; 256],
+    frame: Fields,
+    octets: &[u8],
+    memory: &mut [u8],
+    assembly: &mut [u8],
+) -> Outcome
+    requires { ⌜ isTakenBy core frame ≡ false ⌝ }
+    requires { ⌜ forParticipant core frame ≡ false ⌝ }
+    requires { ⌜ lentRight (now memory) (now assembly) ≡ true ⌝ }
+    requires { ⌜ readOf (now octets) ≡ reads.Frame frame ⌝ }
+    ensures { λ r. ⌜ r .core ≡ coreOf (hearOf (stationIn core (now (listed .entry)) (now (areas .entry)) (now (watch .entry)) (now (misses .entry))) (now (octets .entry)) (now (memory .entry)) (now (assembly .entry)) .station) ⌝ }
+    ensures { λ r. ⌜ r .answer ≡ heardAnswer (hearOf (stationIn core (now (listed .entry)) (now (areas .entry)) (now (watch .entry)) (now (misses .entry))) (now (octets .entry)) (now (memory .entry)) (now (assembly .entry)) .answer) ⌝ }
+    ensures { λ _. ⌜ now (memory .exit) ≡ hearOf (stationIn core (now (listed .entry)) (now (areas .entry)) (now (watch .entry)) (now (misses .entry))) (now (octets .entry)) (now (memory .entry)) (now (assembly .entry)) .memory ⌝ }
+    ensures { λ _. ⌜ now (assembly .exit) ≡ hearOf (stationIn core (now (listed .entry)) (now (areas .entry)) (now (watch .entry)) (now (misses .entry))) (now (octets .entry)) (now (memory .entry)) (now (assembly .entry)) .assembly ⌝ }
+    ensures { λ _. ⌜ membersIn (now (listed .exit)) (now (areas .exit)) (now (watch .exit)) (now (misses .exit)) ≡ hearOf (stationIn core (now (listed .entry)) (now (areas .entry)) (now (watch .entry)) (now (misses .entry))) (now (octets .entry)) (now (memory .entry)) (now (assembly .entry)) .station .members ⌝ }
+{
+    let code = frame.code;
+    let phase = phase_of(core.phase);
+    let answer = boundary_core::heard_answer(hearing_token::answer(phase, code));
+    match effect_of(phase, code) {
+        Effect::Nothing => Outcome {
+            core: boundary_refused::kept(core),
+            answer,
+        },
+        Effect::Listed => {
+            let core = request(core, listed, areas, watch, misses, frame);
+            Outcome { core, answer }
+        }
+        Effect::Learned => {
+            learn(core.rounds, listed, areas, watch, misses, frame);
+            let core = join(core, frame);
+            Outcome { core, answer }
+        }
+        Effect::Begun => boundary_whole::hear(
+            core,
+            listed,
+            areas,
+            watch,
+            misses,
+            octets,
+            memory,
+            assembly,
+        ),
+    }
+}
