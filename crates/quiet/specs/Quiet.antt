@@ -3,11 +3,14 @@ use Rattle.laws.specs.Usual.{_≡_, Bool, true, false, cond, not, _&&_, _||_, �
 use Rattle.members.specs.Members.{nextAfter}
 use Rattle.station.specs.Rules.Answers.{phaseNumber}
 use Rattle.station.specs.Rules.Asking.{dueIn}
-use Rattle.station.specs.Rules.Ticking.{tickOf, watchOf}
-use Rattle.station.specs.Rules.Waits.{detectionWait, acceptanceTime, numberWait, listeningTime}
+use Rattle.station.specs.Rules.Starting.{triggerDue}
+use Rattle.station.specs.Rules.Ticking.{tickOf}
+use Rattle.station.specs.Rules.Waits.{detectionWait, acceptanceTime, numberWait, listeningTime, watchTicks}
 use Rattle.station.specs.declared.Phase.{Phase}
 use Rattle.station.specs.declared.Phase.the-variants.{Off, Listening, Startup, Joining, Participating}
+use Rattle.station.specs.declared.Settings.{Settings}
 use Rattle.station.specs.declared.Station.{Station}
+use Rattle.units.specs.declared.Ticks.{Ticks}
 use Rattle.quiet.specs.Many.{afterTicks}
 
 abbrev pub isDue : Station → Bool
@@ -43,30 +46,31 @@ before wait elapsed = wait - elapsed - 1
 abbrev pub beforeRequest : Bool → ℕ → ℕ → ℕ
 beforeRequest awaited request ticks = cond awaited (min ticks request) ticks
 
-abbrev pub numberWaitOf : Station → ℕ
-numberWaitOf station = numberWait (station .own .number)
+-- a wait for our number is still to end
+abbrev pub runs : ℕ → Ticks → Bool
+runs number count = ltb (count .0) (numberWait number)
 
-abbrev pub listeningTimeOf : Station → ℕ
-listeningTimeOf station = listeningTime (station .own .number)
+-- the ticks before the next end in each phase: our trigger falls due; ring startup ends, or our request falls due before that, unless it is sent;
+-- joining ends likewise; the watch ends
+abbrev pub leftIn : Phase → Settings → Bool → ℕ → Ticks → Ticks → ℕ
+leftIn Off own sent rounds elapsed waited = 0
+leftIn Listening own sent rounds elapsed waited = before (listeningTime (own .number)) (elapsed .0)
+leftIn Startup own sent rounds elapsed waited =
+    beforeRequest (not sent && runs (own .number) elapsed) (before (numberWait (own .number)) (elapsed .0)) (before acceptanceTime (elapsed .0))
+leftIn Joining own sent rounds elapsed waited =
+    beforeRequest (eqb rounds 3 && runs (own .number) waited) (before (numberWait (own .number)) (waited .0)) (before detectionWait (elapsed .0))
+leftIn Participating own sent rounds elapsed waited = before (watchTicks (own .watch)) (elapsed .0)
 
--- our request is still to fall due
-abbrev pub startupAwaits : Station → Bool
-startupAwaits station = not (station .sent) && ltb (station .elapsed .0) (numberWaitOf station)
+abbrev pub leftOf : Phase → Station → ℕ
+leftOf phase station = leftIn phase (station .own) (station .sent) (station .rounds) (station .elapsed) (station .waited)
 
-abbrev pub joiningAwaits : Station → Bool
-joiningAwaits station = eqb (station .rounds) 3 && ltb (station .waited .0) (numberWaitOf station)
-
--- By phases: our trigger falls due once; ring startup ends, unless our request falls due before; joining ends likewise; and the end of a watch
--- moves the view, unless we hold and are alone.
+-- Each end brings news, but: a trigger that is due stays so, and where we hold and are alone the end of a watch leaves the view as it is.
 abbrev pub quietIn : Phase → ℕ → Station → Quiet
 quietIn Off next station = never
-quietIn Listening next station =
-    cond (ltb (station .elapsed .0) (listeningTimeOf station)) (till (before (listeningTimeOf station) (station .elapsed .0))) never
-quietIn Startup next station =
-    till (beforeRequest (startupAwaits station) (before (numberWaitOf station) (station .elapsed .0)) (before acceptanceTime (station .elapsed .0)))
-quietIn Joining next station =
-    till (beforeRequest (joiningAwaits station) (before (numberWaitOf station) (station .waited .0)) (before detectionWait (station .elapsed .0)))
-quietIn Participating next station = cond (eqb next (station .view)) never (till (before (watchOf station) (station .elapsed .0)))
+quietIn Listening next station = cond (triggerDue station) never (till (leftOf Listening station))
+quietIn Startup next station = till (leftOf Startup station)
+quietIn Joining next station = till (leftOf Joining station)
+quietIn Participating next station = cond (eqb next (station .view)) never (till (leftOf Participating station))
 
 -- of the list only the number next after the view matters
 abbrev pub nextInView : Station → ℕ

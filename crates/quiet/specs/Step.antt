@@ -18,7 +18,7 @@ use Rattle.station.specs.declared.Settings.{Settings}
 use Rattle.station.specs.declared.Station.{Station}
 use Rattle.units.specs.declared.Ticks.{Ticks}
 use Rattle.quiet.specs.Alone.{still-alone}
-use Rattle.quiet.specs.Quiet.{isDue, isNews, Quiet, never, till, before, beforeRequest, numberWaitOf, startupAwaits, joiningAwaits, quietIn, nextInView, quietOf}
+use Rattle.quiet.specs.Quiet.{isDue, isNews, Quiet, never, till, before, beforeRequest, runs, quietIn, nextInView, quietOf}
 
 -- news now, or later by one tick less, or never still
 pub data Step (station after : Station) : Quiet → Type 0 where
@@ -70,10 +70,10 @@ module _ (station : Station) where
   waited = station .waited .0
 
   abbrev wait : ℕ
-  wait = numberWaitOf station
+  wait = numberWait (station .own .number)
 
   listening-step : station .phase ≡ Listening → Step station (tickedBy Listening station) (quietIn Listening (nextInView station) station)
-  listening-step p = by (ltb elapsed time) refl (before time elapsed) refl
+  listening-step p = by (leb time elapsed) refl (before time elapsed) refl
     where
       time : ℕ
       time = listeningTime (station .own .number)
@@ -81,18 +81,19 @@ module _ (station : Station) where
       after : Station
       after = tickedBy Listening station
 
-      by : (runs : Bool) → ltb elapsed time ≡ runs → (left : ℕ) → before time elapsed ≡ left → Step station after (cond runs (till left) never)
-      by true r zero l =
-          let h = ltb-true elapsed time r in
-          now (due-news station after (rw p (le-leb time (min time (elapsed + 1)) (omega arith))) (rw p (lt-leb time elapsed (omega arith))))
-      by true r (suc left) l =
-          let h = ltb-true elapsed time r in
-          later-on left (none-due station after refl refl (rw p (lt-leb time (min time (elapsed + 1)) (omega arith))))
-          (rw (p, lt-ltb (min time (elapsed + 1)) time (omega arith)) (ap till (omega arith)))
-      by false r left l =
-          let h = ltb-false elapsed time r in
-          never-on (due-before station after refl refl (rw p (le-leb time elapsed (omega arith))))
-          (rw (p, le-ltb (min time (elapsed + 1)) time (omega arith)))
+      by : (due : Bool) → leb time elapsed ≡ due → (left : ℕ) → before time elapsed ≡ left → Step station after (cond due never (till left))
+      by true d left l =
+          let h = leb-true time elapsed d in
+          let full : min time (elapsed + 1) ≡ time = omega arith in
+          never-on (due-before station after refl refl (rw (p, d))) (rw (p, full, le-leb time time (le-refl time)))
+      by false d zero l =
+          let h = leb-false time elapsed d in
+          now (due-news station after (rw p (le-leb time (min time (elapsed + 1)) (omega arith))) (rw (p, d)))
+      by false d (suc left) l =
+          let h = leb-false time elapsed d in
+          let short : min time (elapsed + 1) < time = omega arith in
+          later-on left (none-due station after refl refl (rw (p, lt-leb time (min time (elapsed + 1)) short)))
+          (rw (p, lt-leb time (min time (elapsed + 1)) short) (ap till (omega arith)))
 
   -- with one tick more, one tick less is left of each wait, and of the one that ends first
   one-less : (time count : ℕ) → before time (count + 1) ≡ before time count - 1
@@ -121,7 +122,7 @@ module _ (station : Station) where
       → Step station (counted station own (later acceptanceTime (station .elapsed)) (station .waited) (station .panel)) (quietIn Startup (nextInView station) station)
   startup-goes p goes own same =
       by (station .sent) refl (ltb elapsed wait) refl
-      (beforeRequest (startupAwaits station) (before wait elapsed) (before acceptanceTime elapsed)) refl
+      (beforeRequest (not (station .sent) && runs (station .own .number) (station .elapsed)) (before wait elapsed) (before acceptanceTime elapsed)) refl
     where
       after : Station
       after = counted station own (later acceptanceTime (station .elapsed)) (station .waited) (station .panel)
@@ -136,9 +137,9 @@ module _ (station : Station) where
       grown = omega (arith, short)
 
       -- our request falls due with this tick
-      at-last : (sent : Bool) → station .sent ≡ sent → (runs : Bool) → ltb elapsed wait ≡ runs
-          → beforeRequest (not sent && runs) (before wait elapsed) left ≡ 0 → Step station after (till 0)
-      at-last true s runs r l = absurd (omega (arith, short))
+      at-last : (sent : Bool) → station .sent ≡ sent → (more : Bool) → ltb elapsed wait ≡ more
+          → beforeRequest (not sent && more) (before wait elapsed) left ≡ 0 → Step station after (till 0)
+      at-last true s more r l = absurd (omega (arith, short))
       at-last false s true r l =
           let h = ltb-true elapsed wait r in
           now
@@ -146,10 +147,10 @@ module _ (station : Station) where
           (rw (p, s, lt-leb wait elapsed h)))
       at-last false s false r l = absurd (omega (arith, short))
 
-      by : (sent : Bool) → station .sent ≡ sent → (runs : Bool) → ltb elapsed wait ≡ runs
-          → (ticks : ℕ) → beforeRequest (not sent && runs) (before wait elapsed) left ≡ ticks → Step station after (till ticks)
-      by sent s runs r zero l = at-last sent s runs r l
-      by true s runs r (suc ticks) l =
+      by : (sent : Bool) → station .sent ≡ sent → (more : Bool) → ltb elapsed wait ≡ more
+          → (ticks : ℕ) → beforeRequest (not sent && more) (before wait elapsed) left ≡ ticks → Step station after (till ticks)
+      by sent s more r zero l = at-last sent s more r l
+      by true s more r (suc ticks) l =
           later-on ticks (none-due station after refl refl (rw (p, s) (neither (leb (numberWait (own .number)) (min acceptanceTime (elapsed + 1))))))
           (rw (p, s) (ap till (omega arith)))
       by false s true r (suc ticks) l =
@@ -171,7 +172,7 @@ module _ (station : Station) where
       (quietIn Joining (nextInView station) station)
   joining-goes p goes third t own same =
       by third t (ltb waited wait) refl
-      (beforeRequest (joiningAwaits station) (before wait waited) (before detectionWait elapsed)) (rw t)
+      (beforeRequest (eqb (station .rounds) 3 && runs (station .own .number) (station .waited)) (before wait waited) (before detectionWait elapsed)) (rw t)
     where
       after : Bool → Station
       after third = counted station own (later detectionWait (station .elapsed)) (cond third (later wait (station .waited)) (station .waited)) (station .panel)
@@ -186,9 +187,9 @@ module _ (station : Station) where
       grown = omega (arith, short)
 
       -- our request falls due with this tick
-      at-last : (third : Bool) → eqb (station .rounds) 3 ≡ third → (runs : Bool) → ltb waited wait ≡ runs
-          → beforeRequest (third && runs) (before wait waited) left ≡ 0 → Step station (after third) (till 0)
-      at-last false t runs r l = absurd (omega (arith, short))
+      at-last : (third : Bool) → eqb (station .rounds) 3 ≡ third → (more : Bool) → ltb waited wait ≡ more
+          → beforeRequest (third && more) (before wait waited) left ≡ 0 → Step station (after third) (till 0)
+      at-last false t more r l = absurd (omega (arith, short))
       at-last true t true r l =
           let h = ltb-true waited wait r in
           now
@@ -196,10 +197,10 @@ module _ (station : Station) where
           (rw (p, t, lt-leb wait waited h)))
       at-last true t false r l = absurd (omega (arith, short))
 
-      by : (third : Bool) → eqb (station .rounds) 3 ≡ third → (runs : Bool) → ltb waited wait ≡ runs
-          → (ticks : ℕ) → beforeRequest (third && runs) (before wait waited) left ≡ ticks → Step station (after third) (till ticks)
-      by third t runs r zero l = at-last third t runs r l
-      by false t runs r (suc ticks) l =
+      by : (third : Bool) → eqb (station .rounds) 3 ≡ third → (more : Bool) → ltb waited wait ≡ more
+          → (ticks : ℕ) → beforeRequest (third && more) (before wait waited) left ≡ ticks → Step station (after third) (till ticks)
+      by third t more r zero l = at-last third t more r l
+      by false t more r (suc ticks) l =
           later-on ticks (none-due station (after false) refl refl (rw (p, t)))
           (rw (p, t, grown) (ap till (omega arith)))
       by true t true r (suc ticks) l =
@@ -246,7 +247,7 @@ module _ (station : Station) where
           (quietIn Startup (nextInView station) station)
       by true e =
           let h = leb-true acceptanceTime (min acceptanceTime (elapsed + 1)) e in
-          rw (at-once (startupAwaits station) (before wait elapsed) (before acceptanceTime elapsed) (omega arith))
+          rw (at-once (not (station .sent) && runs (station .own .number) (station .elapsed)) (before wait elapsed) (before acceptanceTime elapsed) (omega arith))
           (now (ended (numbersOf (station .members))))
       by false e =
           startup-goes p e (fallsDue station (station .elapsed) (later acceptanceTime (station .elapsed)))
@@ -263,7 +264,7 @@ module _ (station : Station) where
           (quietIn Joining (nextInView station) station)
       by true e =
           let h = leb-true detectionWait (min detectionWait (elapsed + 1)) e in
-          rw (at-once (joiningAwaits station) (before wait waited) (before detectionWait elapsed) (omega arith))
+          rw (at-once (eqb (station .rounds) 3 && runs (station .own .number) (station .waited)) (before wait waited) (before detectionWait elapsed) (omega arith))
           (now (phase-news station (fresh Listening (station .own)) (rw p)))
       by false e =
           joining-goes p e (eqb (station .rounds) 3) refl (fallsDue station (station .waited) counts) (settings-kept (station .waited) counts .0)
