@@ -2,6 +2,7 @@
 pub mod Many
 pub mod Quiet
 -- Theorems.
+pub mod ManyLaws
 pub mod Alone
 pub mod Step
 pub mod QuietExact
