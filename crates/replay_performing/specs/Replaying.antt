@@ -1,10 +1,10 @@
 -- What each command does to a station and its buffers, and the line that is answered.
-use Rattle.laws.specs.Usual.{List, ℕ, suc, _-_, _*_, length, take, drop}
-use Prim.Native.Nat.{zero}
+use Rattle.laws.specs.Usual.{List, ℕ, _-_, _*_, length, take, drop}
 use Rattle.text_hexadecimal.specs.Octets.{octetsOf}
 use Rattle.replay_commands.specs.declared.Command.{Command}
 use Rattle.replay_commands.specs.declared.Command.the-variants.{Start, Stop, Tick, Hear, Ask, Panel, Poke, Peek, State, Bad}
 use Rattle.copying.specs.Pasted.{pasted}
+use Rattle.quiet.specs.Many.{ticksOf}
 use Rattle.replay_replies.specs.Replies.{switchedText, heardText, askedText}
 use Rattle.replay_reply_shown.specs.Shown.{panelText, octetsText}
 use Rattle.replay_reply_state.specs.State.{stateText}
@@ -13,7 +13,7 @@ use Rattle.station.specs.Rules.Asking.{Asking, askOf}
 use Rattle.station.specs.Rules.Hearing.{Hearing, hearOf}
 use Rattle.station.specs.Rules.Showing.{figureShown}
 use Rattle.station.specs.Rules.Starting.{Switching, startOf, stopOf}
-use Rattle.station.specs.Rules.Ticking.{Ticking, tickOf}
+use Rattle.station.specs.Rules.Ticking.{Ticking}
 use Rattle.station.specs.declared.Station.{Station}
 
 -- what is kept between commands: the station and its buffers
@@ -46,15 +46,7 @@ with kept station = keeping station (kept .memory) (kept .assembly) (kept .turn)
 abbrev pub switched : Kept → Switching → Performed
 switched kept done = record { kept = with kept (done .station); line = switchedText (done .answer) }
 
--- so many ticks more; the answer is that of the last
-abbrev pub tickedOn : ℕ → Ticking → Ticking
-tickedOn zero done = done
-tickedOn (suc more) done = tickedOn more (tickOf (done .station))
-
--- `tick K`: K ticks, one at least
-abbrev pub ticksOf : Station → ℕ → Ticking
-ticksOf station count = tickedOn (count - 1) (tickOf station)
-
+-- `tick K`
 abbrev pub ticked : Kept → Ticking → Performed
 ticked kept done = record { kept = with kept (done .station); line = tickedText (done .answer) }
 
@@ -94,7 +86,7 @@ digitsIn line at count = take (2 * count) (drop at line)
 abbrev pub performed : Command → List ℕ → Kept → Performed
 performed (Start own) line kept = switched kept (startOf (kept .station) own)
 performed Stop line kept = switched kept (stopOf (kept .station))
-performed (Tick count) line kept = ticked kept (ticksOf (kept .station) count)
+performed (Tick count) line kept = ticked kept (ticksOf count (kept .station))
 performed (Hear octets) line kept =
     heard kept (hearOf (kept .station) (octetsOf (digitsIn line (octets .digits) (octets .count))) (kept .memory) (kept .assembly))
 performed Ask line kept = asked kept (askOf (kept .station) (kept .memory) (kept .turn) (kept .frame))

@@ -4,11 +4,11 @@ use replay_commands::Peek;
 use replay_reply_octets::part_of;
 use starting::Switching;
 use station::Station;
-use ticking::Ticking;
 ghost use Rattle.laws.specs.Usual.{_≡_, length, take, drop};
 ghost use Rattle.text_hexadecimal.specs.Octets.{octetsOf};
 ghost use Rattle.copying.specs.Pasted.{pasted};
-ghost use Rattle.replay_performing.specs.Replaying.{ticksOf, pokedBy, digitsIn, keeping, performed};
+ghost use Rattle.quiet.specs.Many.{ticksOf};
+ghost use Rattle.replay_performing.specs.Replaying.{pokedBy, digitsIn, keeping, performed};
 ghost use Rattle.replay_replies.specs.Replies.{switchedText, heardText, askedText};
 ghost use Rattle.replay_reply_shown.specs.Shown.{octetsText};
 ghost use Rattle.replay_reply_words.specs.Answers.{doneText, tickedText};
@@ -32,27 +32,12 @@ fn switched(switching: Switching, answer: &mut [u8; 40000]) -> Reply
     Reply { station, length }
 }
 
-// Ticks once, and then until `count` ticks have come.
-fn tick_many(station: Station, count: u32) -> Ticking
-    ensures { λ r. ⌜ r .station ≡ ticksOf station count .station ⌝ }
-    ensures { λ r. ⌜ r .answer ≡ ticksOf station count .answer ⌝ }
-{
-    let mut ticking = ticking::tick(station);
-    let mut left = count;
-    while 1 < left {
-        let before = ticking.station;
-        ticking = ticking::tick(before);
-        left -= 1;
-    }
-    ticking
-}
-
 fn tick(station: Station, count: u32, answer: &mut [u8; 40000]) -> Reply
-    ensures { λ r. ⌜ r .station ≡ ticksOf station count .station ⌝ }
-    ensures { λ r. ⌜ r .length ≡ length (tickedText (ticksOf station count .answer)) ⌝ }
-    ensures { λ _. ⌜ now (answer .exit) ≡ pasted (now (answer .entry)) 0 (tickedText (ticksOf station count .answer)) ⌝ }
+    ensures { λ r. ⌜ r .station ≡ ticksOf count station .station ⌝ }
+    ensures { λ r. ⌜ r .length ≡ length (tickedText (ticksOf count station .answer)) ⌝ }
+    ensures { λ _. ⌜ now (answer .exit) ≡ pasted (now (answer .entry)) 0 (tickedText (ticksOf count station .answer)) ⌝ }
 {
-    let ticking = tick_many(station, count);
+    let ticking = ticks::ticks(station, count);
     let station = ticking.station;
     let done = ticking.answer;
     let length = replay_reply_words::put_ticked(done, answer);

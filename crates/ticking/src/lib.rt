@@ -165,7 +165,8 @@ fn tick_on(station: Station) -> Station
     }
 }
 
-fn answer_in(phase: Phase) -> Ticked
+// What a tick is answered.
+pub fn answer_in(phase: Phase) -> Ticked
     ensures { λ r. ⌜ r ≡ tickAnswer phase ⌝ }
 {
     match phase {

@@ -5,18 +5,18 @@ use Rattle.replay_reply_words.specs.Answers.{tickedText}
 use Rattle.replay_performing.proofs.tick.Statement.{statement}
 use Rattle.replay_performing.proofs.tick.Tie as tie
 
-tick-many-requires : tie.Need-tick-many-requires
-tick-many-requires c κs = search needs
+ticks-requires : tie.Need-ticks-requires
+ticks-requires c κs = search needs
 
 put-ticked-requires : tie.Need-put-ticked-requires
 put-ticked-requires c κs = search needs
 
 returns : tie.Need-returns
 returns c =
-    let done = c .before .before .before .tick-many .ensures in
+    let done = c .before .before .before .ticks .ensures in
     let text = c .put-ticked .ensures in
     let same = ap tickedText (done .1) in
     (done .0, (text .0 ∙ ap length same, text .1 ∙ ap (pasted (c .before .before .before .before .args .answer .now) 0) same))
 
 pub tick-spec : {M : Type 1} → statement M
-tick-spec = tie.close (tie.spec tick-many-requires put-ticked-requires returns)
+tick-spec = tie.close (tie.spec ticks-requires put-ticked-requires returns)

@@ -1,0 +1,2 @@
+-- The ticks of a station that holds and is alone.
+pub mod Alone
