@@ -13,7 +13,7 @@ fn overlaps_entry(entry: Entry, other: bool, parts: Areas) -> bool
 {
     let theirs = entry.areas;
     if entry.listed & other {
-        return area::areas_overlap(parts, theirs);
+        return area_overlap::areas_overlap(parts, theirs);
     }
     false
 }
@@ -53,7 +53,7 @@ fn listed_areas(
     ensures { λ r. ⌜ r ≡ cond (overlapsOther (membersIn (now (listed .entry)) (now (areas .entry)) (now (watch .entry)) (now (misses .entry))) number parts || areasOverlap parts ours) (bare parts) parts ⌝ }
 {
     if overlaps_other(listed, areas, watch, misses, number, parts)
-        | area::areas_overlap(parts, ours)
+        | area_overlap::areas_overlap(parts, ours)
     {
         members_listing::bare(parts)
     } else {

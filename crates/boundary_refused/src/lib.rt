@@ -52,7 +52,7 @@ pub fn heard_refusal(lent: bool, refusal: Refusal) -> Refusal
 pub fn is_taken(core: Core, frame: Fields) -> bool
     ensures { λ r. ⌜ r ≡ isTakenBy core frame ⌝ }
 {
-    !state_parts::is_off(phase_of(core.phase)) & (frame.source == core.own.number)
+    !state_tests::is_off(phase_of(core.phase)) & (frame.source == core.own.number)
 }
 
 // Whether a participant refuses a cyclic frame that was read by number 9, by whether its source and its destination are listed.
