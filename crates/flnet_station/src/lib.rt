@@ -3,14 +3,20 @@
 use boundary_core::Core;
 use boundary_core::Outcome;
 use boundary_figure::Shown;
+use boundary_quiet::Quiet;
 use station::Settings;
+ghost use mathlib.Core.List.{List};
 ghost use mathlib.Core.Path.{_≡_};
+ghost use Prim.Native.Nat.{ℕ};
 ghost use Rattle.boundary_core.specs.Crossing.{coreOf, stationIn, figureIn};
 ghost use Rattle.boundary_answers.specs.Numbers.{switchedAnswer, tickedAnswer};
 ghost use Rattle.boundary_told.specs.Told.{heardTold, askedTold};
 ghost use Rattle.boundary_figure.specs.Figures.{figureNumbers};
 ghost use Rattle.boundary_lists.specs.Lists.{membersIn};
+ghost use Rattle.boundary_quiet.specs.Numbers.{quietNumbers};
 ghost use Rattle.members.specs.Members.{noMembers};
+ghost use Rattle.quiet.specs.Many.{ticksOf};
+ghost use Rattle.quiet.specs.Quiet.{quietOf};
 ghost use Rattle.station.specs.Rules.Asking.{askOf};
 ghost use Rattle.station.specs.Rules.Hearing.{hearOf};
 ghost use Rattle.station.specs.Rules.Starting.{startOf, stopOf};
@@ -75,6 +81,31 @@ pub extern "C" fn flnet_tick(
     ensures { λ _. ⌜ membersIn (now (listed .exit)) (now (areas .exit)) (now (watch .exit)) (now (misses .exit)) ≡ tickOf (stationIn core (now (listed .entry)) (now (areas .entry)) (now (watch .entry)) (now (misses .entry))) .station .members ⌝ }
 {
     boundary_calls::tick(core, listed, areas, watch, misses)
+}
+
+// So many ticks one after the other.
+#[no_mangle]
+pub extern "C" fn flnet_ticks(
+    core: Core,
+    listed: &mut [bool; 256],
+    areas: &mut [u16; boundary_lists::AREA_NUMBERS],
+    watch: &mut [u8; 256],
+    misses: &mut [u8; 256],
+    count: u32,
+) -> Outcome
+    ensures { λ r. ⌜ r .core ≡ coreOf (ticksOf count (stationIn core (now (listed .entry)) (now (areas .entry)) (now (watch .entry)) (now (misses .entry))) .station) ⌝ }
+    ensures { λ r. ⌜ r .answer ≡ tickedAnswer (ticksOf count (stationIn core (now (listed .entry)) (now (areas .entry)) (now (watch .entry)) (now (misses .entry))) .answer) ⌝ }
+    ensures { λ _. ⌜ membersIn (now (listed .exit)) (now (areas .exit)) (now (watch .exit)) (now (misses .exit)) ≡ ticksOf count (stationIn core (now (listed .entry)) (now (areas .entry)) (now (watch .entry)) (now (misses .entry))) .station .members ⌝ }
+{
+    boundary_ticks::ticks(core, listed, areas, watch, misses, count)
+}
+
+// How many ticks can come, with no call between, before one brings news. Of the list only the flags matter to it.
+#[no_mangle]
+pub extern "C" fn flnet_quiet(core: Core, listed: &[bool; 256]) -> Quiet
+    ensures { λ r. ⌜ ((areas watch misses : List ℕ) → r ≡ quietNumbers (quietOf (stationIn core (now (listed .entry)) areas watch misses))) ⌝ }
+{
+    boundary_quiet::quiet_ticks(core, listed)
 }
 
 #[no_mangle]

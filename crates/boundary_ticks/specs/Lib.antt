@@ -1,0 +1,2 @@
+-- Ticks that only count, on a core.
+pub mod Calm
