@@ -205,6 +205,12 @@ typedef struct {
     size_t length; /* of the text */
 } flnet_figure;
 
+/* How long a station stays as it is, with no other call between its ticks. */
+typedef struct {
+    bool ends;      /* false: no tick ever brings news */
+    uint32_t ticks; /* that bring none; the one after them does. 0 where it never ends */
+} flnet_quiet_ticks;
+
 /* A station that was never started: its core, and the list, which is emptied. */
 flnet_core flnet_new(bool *listed, uint16_t *areas, uint8_t *watch, uint8_t *misses);
 
@@ -220,6 +226,20 @@ flnet_result flnet_stop(flnet_core core, bool *listed, uint16_t *areas, uint8_t 
  * the others take the token from it.
  */
 flnet_result flnet_tick(flnet_core core, bool *listed, uint16_t *areas, uint8_t *watch, uint8_t *misses);
+
+/*
+ * So many ticks in one call, for a host that slept or was not scheduled: the same as that many calls of flnet_tick one after the other, with
+ * the answer of the last. Ticks that only count are jumped over, so that many of them take no longer than one. No ticks change nothing, and
+ * are answered as one tick would be.
+ */
+flnet_result flnet_ticks(flnet_core core, bool *listed, uint16_t *areas, uint8_t *watch, uint8_t *misses, uint32_t count);
+
+/*
+ * How many ticks can come, with no other call between, before one brings news: another phase, another view, or a frame that was not due
+ * before. A frame that is due already is no news, so ask first. A host can then sleep until one tick more than these have come, or until
+ * a frame comes; it ticks up to that moment with flnet_ticks, and hears or asks as ever. Of the list only the flags are read.
+ */
+flnet_quiet_ticks flnet_quiet(flnet_core core, const bool *listed);
 
 /*
  * A frame from the wire, but not one of ours that the network gives back: a station that hears its own number before it participates is
@@ -272,6 +292,16 @@ static inline flnet_answer flnet_station_tick(flnet_station *station)
     return flnet_station_keep(station, flnet_tick(station->core, FLNET_LIST(*station)));
 }
 
+static inline flnet_answer flnet_station_ticks(flnet_station *station, uint32_t count)
+{
+    return flnet_station_keep(station, flnet_ticks(station->core, FLNET_LIST(*station), count));
+}
+
+static inline flnet_quiet_ticks flnet_station_quiet(const flnet_station *station)
+{
+    return flnet_quiet(station->core, station->list.listed);
+}
+
 static inline flnet_answer flnet_station_hear(flnet_station *station, const uint8_t *octets, size_t octets_length, uint8_t *memory,
                                               size_t memory_length, uint8_t *assembly, size_t assembly_length)
 {
@@ -304,6 +334,7 @@ static_assert(sizeof(flnet_route) == 4, "flnet_route");
 static_assert(sizeof(flnet_answer) == 16, "flnet_answer");
 static_assert(sizeof(flnet_result) == 56, "flnet_result");
 static_assert(sizeof(flnet_figure) == 24, "flnet_figure");
+static_assert(sizeof(flnet_quiet_ticks) == 8, "flnet_quiet_ticks");
 #else
 }
 #endif

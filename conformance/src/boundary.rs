@@ -171,8 +171,16 @@ impl Figure {
     }
 }
 
+/// How many ticks bring no news, where the one after them does.
+#[repr(C)]
+#[derive(Clone, Copy, Debug, Default, PartialEq, Eq)]
+pub struct Quiet {
+    pub ends: bool,
+    pub ticks: u32,
+}
+
 mod calls {
-    use super::{Core, Figure, Outcome, Settings};
+    use super::{Core, Figure, Outcome, Quiet, Settings};
 
     extern "C" {
         pub fn flnet_new(
@@ -203,6 +211,15 @@ mod calls {
             watch: *mut u8,
             misses: *mut u8,
         ) -> Outcome;
+        pub fn flnet_ticks(
+            core: Core,
+            listed: *mut bool,
+            areas: *mut u16,
+            watch: *mut u8,
+            misses: *mut u8,
+            count: u32,
+        ) -> Outcome;
+        pub fn flnet_quiet(core: Core, listed: *const bool) -> Quiet;
         pub fn flnet_hear(
             core: Core,
             listed: *mut bool,
@@ -281,6 +298,15 @@ impl Station {
 
     pub fn tick(&mut self) -> Answer {
         call!(flnet_tick, self)
+    }
+
+    pub fn ticks(&mut self, count: u32) -> Answer {
+        call!(flnet_ticks, self, count)
+    }
+
+    pub fn quiet(&self) -> Quiet {
+        // SAFETY: the flags have the header's length and are only read.
+        unsafe { calls::flnet_quiet(self.core, self.list.listed.as_ptr()) }
     }
 
     pub fn hear(&mut self, octets: &[u8], memory: &mut [u8], assembly: &mut [u8]) -> Answer {

@@ -7,6 +7,12 @@ pub trait Engine {
     fn start(&mut self, own: Settings) -> Answer;
     fn stop(&mut self) -> Answer;
     fn tick(&mut self) -> Answer;
+    /// So many ticks, one by one.
+    fn ticks(&mut self, count: u32) {
+        (0..count).for_each(|_| {
+            self.tick();
+        });
+    }
     fn hear(&mut self, octets: &[u8], memory: &mut [u8], assembly: &mut [u8]) -> Answer;
     fn ask(&mut self, memory: &[u8], turn: &mut [u8], output: &mut [u8]) -> Answer;
     fn show(&self) -> Figure;
@@ -24,6 +30,11 @@ impl Engine for Station {
 
     fn tick(&mut self) -> Answer {
         Station::tick(self)
+    }
+
+    /// In one call.
+    fn ticks(&mut self, count: u32) {
+        Station::ticks(self, count);
     }
 
     fn hear(&mut self, octets: &[u8], memory: &mut [u8], assembly: &mut [u8]) -> Answer {

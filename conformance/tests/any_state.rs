@@ -99,7 +99,7 @@ fn any_list(random: &mut Random) -> List {
 }
 
 /// Any value of the state, also one that no calls lead to.
-fn any_station(random: &mut Random) -> Station {
+pub fn any_station(random: &mut Random) -> Station {
     Station {
         core: any_core(random),
         list: any_list(random),

@@ -10,6 +10,7 @@ mod example;
 mod paper;
 mod rings;
 mod rules;
+mod ticks;
 mod uncovered;
 
 fn given_seed() -> Option<u64> {

@@ -62,6 +62,10 @@ impl<E: Engine + Default> Host<E> {
         black_box(&mut self.station).tick();
     }
 
+    fn ticks(&mut self, count: u32) {
+        black_box(&mut self.station).ticks(black_box(count));
+    }
+
     /// What became of the data.
     fn hear(&mut self, octets: &[u8]) -> u8 {
         let station = black_box(&mut self.station);
@@ -123,6 +127,32 @@ fn tick_listening<E: Engine + Default>() -> impl FnMut() -> f64 {
     measurement(20, 2000, move || (0..2000).for_each(|_| station.tick()))
 }
 
+/// The same, a thousand ticks at a time.
+fn ticks_listening<E: Engine + Default>() -> impl FnMut() -> f64 {
+    let mut station = Host::<E>::started(share(1, 512));
+    measurement(200, 1, move || station.ticks(1000))
+}
+
+/// A station alone in its list, 3000 ticks at a time: more than its watch.
+fn ticks_alone<E: Engine + Default>() -> impl FnMut() -> f64 {
+    let mut station = alone::<E>();
+    measurement(200, 1, move || station.ticks(3000))
+}
+
+/// How long it is quiet: the whole watch of a participant. The model ticks until it ends.
+fn quiet() -> (impl FnMut() -> f64, impl FnMut() -> f64) {
+    let watch = waits::watch(255);
+    let station = Host::<Station>::participant(share(1, 512), &[share(2, 512)]).station;
+    let model = Host::<Model>::participant(share(1, 512), &[share(2, 512)]).station;
+    let proved = measurement(16_000, 1, move || {
+        assert_eq!(black_box(&station).quiet().ticks, watch - 1)
+    });
+    let stepped = measurement(200, 1, move || {
+        black_box(&model).clone().ticks(watch);
+    });
+    (proved, stepped)
+}
+
 /// Hears these frames in turn, with the same outcome each time.
 fn hear<E: Engine + Default>(
     mut station: Host<E>,
@@ -178,11 +208,17 @@ fn ask_block<E: Engine + Default>() -> impl FnMut() -> f64 {
     }
 }
 
+/// A station alone in its list, after three misses of the other, and as many watches of its own
+/// between them.
+fn alone<E: Engine + Default>() -> Host<E> {
+    let mut station = Host::<E>::participant(share(1, 4096), &[share(2, 4096)]);
+    (0..6 * waits::watch(255)).for_each(|_| station.tick());
+    station
+}
+
 /// The same for a station alone in its list, which looks for the next one at every number.
 fn ask_alone<E: Engine + Default>() -> impl FnMut() -> f64 {
-    let mut station = Host::<E>::participant(share(1, 4096), &[share(2, 4096)]);
-    // Three misses of the other, and as many watches of ours between them.
-    (0..6 * waits::watch(255)).for_each(|_| station.tick());
+    let mut station = alone::<E>();
     measurement(16_000, 1, move || assert_eq!(station.ask(), OUTPUT))
 }
 
@@ -269,6 +305,20 @@ fn main() {
         tick_listening::<Station>(),
         tick_listening::<Model>(),
     );
+    line(
+        "1000 ticks of a station that listens",
+        NANOSECOND,
+        ticks_listening::<Station>(),
+        ticks_listening::<Model>(),
+    );
+    line(
+        "3000 ticks, alone in the list",
+        NANOSECOND,
+        ticks_alone::<Station>(),
+        ticks_alone::<Model>(),
+    );
+    let (proved, stepped) = quiet();
+    line("how long it is quiet", NANOSECOND, proved, stepped);
     line(
         "ask with nothing due",
         NANOSECOND,

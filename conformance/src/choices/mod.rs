@@ -1,7 +1,7 @@
 //! What to do next with a station, drawn at random but led by its state, so that runs get far into
 //! every phase.
 
-mod due;
+pub mod due;
 mod heard;
 
 use crate::boundary::{Settings, Station};
