@@ -1,14 +1,12 @@
 // Asking for a frame.
 mod due;
-mod fields;
 mod sent;
 
+use asking_bare::request_fields;
+use asking_bare::trigger_fields;
 use due::is_due;
-use fields::request_fields;
-use fields::trigger_fields;
 use frame::Fields;
 use frame::Refusal;
-use frame_writing::Written;
 use sent::block_sent;
 use sent::request_sent;
 use station::Asked;
@@ -36,19 +34,6 @@ fn refused(station: Station, refusal: Refusal) -> Asking
     Asking { station, answer }
 }
 
-// Writes a frame that has its data in the block and its room in the output, so that writing does not refuse it.
-fn write(fields: Fields, block: &[u8], output: &mut [u8]) -> usize
-    requires { ⌜ dataSize fields ≤ length (now block) ⌝ }
-    requires { ⌜ wholeLength fields ≤ length (now output) ⌝ }
-    ensures { λ r. ⌜ r ≡ wholeLength fields ⌝ }
-    ensures { λ _. ⌜ now (output .exit) ≡ outputOf fields (now (block .entry)) (now (output .entry)) ⌝ }
-{
-    match frame_whole_writing::write_frame(fields, block, output) {
-        Written::Octets(octets) => octets,
-        Written::Refused(_) => 0,
-    }
-}
-
 // Writes a frame without data. The station is the one after it.
 fn send_bare(station: Station, fields: Fields, output: &mut [u8]) -> Asking
     requires { ⌜ dataSize fields ≡ 0 ⌝ }
@@ -57,8 +42,7 @@ fn send_bare(station: Station, fields: Fields, output: &mut [u8]) -> Asking
     ensures { λ r. ⌜ r .answer ≡ Asked.Octets (wholeLength fields) ⌝ }
     ensures { λ _. ⌜ now (output .exit) ≡ outputOf fields [] (now (output .entry)) ⌝ }
 {
-    let none = [0u8; 1];
-    let answer = Asked::Octets(write(fields, &none[0..0], output));
+    let answer = Asked::Octets(asking_bare::write_bare(fields, output));
     Asking { station, answer }
 }
 

@@ -179,5 +179,8 @@ pub fn ask(
     if !(lent & boundary_refused::is_due(core)) {
         return boundary_refused::refuse(core, boundary_refused::ask_refusal(lent));
     }
+    if boundary_requesting::is_requesting(core) {
+        return boundary_requesting::send(core, output);
+    }
     boundary_whole::ask(core, listed, areas, watch, misses, memory, turn, output)
 }

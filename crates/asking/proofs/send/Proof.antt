@@ -1,6 +1,6 @@
 -- `asking::send` meets its contract.
 use Rattle.laws.specs.Usual.{_≡_, refl, sym, ap, subst, _∙_, false≢true, List, [], ℕ, arith, length, drop, needs}
-use borrow.Author.Tests.{le-leb}
+use Rattle.asking_bare.specs.Bare.{no-data}
 use Rattle.block.specs.Blocks.{startOf}
 use Rattle.laws.specs.Tests.{second}
 use Rattle.frame_reading.specs.Reading.{dataSize}
@@ -15,10 +15,6 @@ use Rattle.frame_writing.specs.Writing.{wholeLength, outputOf}
 use Rattle.asking.proofs.send.Statement.{statement}
 use Rattle.asking.proofs.send.Tie as tie
 use Rattle.asking.proofs.Lent.{lent}
-
--- a frame without data does not depend on the block that is lent
-no-data : (fields : Fields) (block output : List ℕ) → dataSize fields ≡ 0 → outputOf fields [] output ≡ outputOf fields block output
-no-data fields block output e = rw (e, le-leb 0 (length block) (omega arith))
 
 module _ (station : Station) (memory turn output : List ℕ) where
   -- what a frame that is due in a phase leaves

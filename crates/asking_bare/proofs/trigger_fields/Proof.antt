@@ -1,7 +1,7 @@
--- `asking::fields::trigger_fields` meets its contract.
+-- `asking_bare::trigger_fields` meets its contract.
 use borrow.Author.Needs.{needs}
-use Rattle.asking.proofs.fields.trigger_fields.Statement.{statement}
-use Rattle.asking.proofs.fields.trigger_fields.Tie as tie
+use Rattle.asking_bare.proofs.trigger_fields.Statement.{statement}
+use Rattle.asking_bare.proofs.trigger_fields.Tie as tie
 
 no-areas-requires : tie.Need-no-areas-requires
 no-areas-requires c κs = search needs

@@ -1,12 +1,12 @@
--- `asking::write` meets its contract.
+-- `asking_bare::write` meets its contract.
 use Rattle.laws.specs.Usual.{_≡_, sym, _∙_, List, ℕ, _≤_, arith, length, needs}
 use borrow.Author.Tests.{le-leb}
 use Rattle.station.specs.Types.{Fields, Refusal}
 use Rattle.frame_reading.specs.Reading.{dataSize}
 use Rattle.frame_writing.specs.Writing.{wholeLength, writtenOf}
 use Rattle.frame_writing.specs.declared.Written.the-variants.{Octets, Refused}
-use Rattle.asking.proofs.write.Statement.{statement}
-use Rattle.asking.proofs.write.Tie as tie
+use Rattle.asking_bare.proofs.write.Statement.{statement}
+use Rattle.asking_bare.proofs.write.Tie as tie
 
 -- what is there is written
 accepted : (fields : Fields) (block output : List ℕ) → dataSize fields ≤ length block → wholeLength fields ≤ length output →
