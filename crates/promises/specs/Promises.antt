@@ -1,7 +1,7 @@
 -- What is promised: each printed statement written out, in the order of docs/PROMISES.md, and proved by the theorem that is named beside it.
 -- The definitions that the statements are made of are the rules themselves, which the contracts of the calls cite. Words in quotes are the
 -- request's and paper 01's.
-use Rattle.laws.specs.Usual.{_≡_, refl, sym, ap, _∙_, true, false, cond, not, _&&_, _||_, false≢true, List, [], _∷_, _++_, ℕ, _+_, _-_, _*_, _<_, _≤_, length, getD, take, eqb}
+use Rattle.laws.specs.Usual.{_≡_, refl, sym, ap, subst, _∙_, true, false, cond, not, _&&_, _||_, false≢true, List, [], _∷_, _++_, ℕ, _+_, _-_, _*_, _<_, _≤_, length, getD, take, replicate, eqb}
 use mathlib.Core.Logic.{_⊎_, inl, inr}
 use Rattle.area.specs.Areas.{inArea, inRange}
 use Rattle.area.specs.Overlap.{partsOverlap, areasOverlap}
@@ -34,6 +34,10 @@ use Rattle.panel.specs.Texts.{shown-text}
 use Rattle.panel.specs.declared.Figure.the-variants.{Nothing}
 use Rattle.frame_reading.specs.Reading.{readOf, isStation, dataSize}
 use Rattle.frame_reading.specs.Reading as reading
+use Rattle.quiet.specs.Many.{afterTicks, ticksOf}
+use Rattle.quiet.specs.ManyLaws.{ticks-answer, ticks-called}
+use Rattle.quiet.specs.Quiet as quiet
+use Rattle.quiet.specs.QuietExact.{quiet-exact}
 use Rattle.refusals.specs.Applies.{applies, firstOf}
 use Rattle.refusals.specs.FirstApplies.{first-applies}
 use Rattle.replay_lines.specs.Output as replayed
@@ -58,7 +62,7 @@ use Rattle.station.specs.Rules.Answers.{dataOf}
 use Rattle.station.specs.States.Disjoint.{Apart}
 use Rattle.station.specs.Frames.FrameAccepted.{frame-asked, frame-accepted}
 use Rattle.station.specs.Rules.Asking.{askOf, dueFields}
-use Rattle.station.specs.Rules.Calls.{Call, hear, ask, after, lent, lentAfter, refusedBy, unrefused, verdict}
+use Rattle.station.specs.Rules.Calls.{Call, tick, hear, ask, after, lent, lentAfter, refusedBy, unrefused, verdict}
 use Rattle.station.specs.Memory.Gathers.{Parts}
 use Rattle.station.specs.Rules.Hearing.{hearOf, knows, lentRight}
 use Rattle.station.specs.Panel.History.{stepOf, stateAfter, history, participates, takings, lastGap}
@@ -71,6 +75,7 @@ use Rattle.station.specs.RefusedLeft.{Spared, same, turnedOff, refused-left}
 use Rattle.station.specs.Rules.Showing.{figureShown}
 use Rattle.station.specs.Rules.Starting.{requestFallen}
 use Rattle.station.specs.Rules.State.{never, isOff, isParticipating, stopped}
+use Rattle.station.specs.Rules.Ticking.{tickOf}
 use Rattle.station.specs.Memory.TurnWhole.{Lending, turn-whole}
 use Rattle.station.specs.Memory.TurnWritten.{Turned, turn-written}
 use Rattle.station.specs.declared.Asked.the-variants.{Octets}
@@ -348,6 +353,25 @@ reads-back fields block can enough = (fields-read fields block can enough, data-
 -- clause 10.1 or the paper fixes for that code", which is the table's.
 pub writes-back : (s : List ℕ) (fields : Fields) → ((at : ℕ) → octetAt s at < 256) → readOf s ≡ Frame fields → WrittenBack s fields
 writes-back = written-back
+
+-- MANY TICKS IN ONE CALL are that many calls of tick,
+pub many-ticks : (count : ℕ) (station : Station) → ticksOf count station .station ≡ afterAll after station (replicate count tick)
+many-ticks = ticks-called
+
+-- with the answer of the last, which is that of the first; of none it is what one would be answered.
+pub many-ticks-answered : (count : ℕ) (station : Station) → ticksOf count station .answer ≡ tickOf station .answer
+many-ticks-answered = ticks-answer
+
+-- HOW LONG IT IS QUIET: where the answer is a number, that many ticks bring no other phase, no other view and no frame that was not due before,
+-- and the next one does;
+pub quiet-till : (station : Station) → station .own .watch .0 < 256 → (ticks : ℕ) → quiet.quietOf station ≡ quiet.till ticks
+    → ((count : ℕ) → count < ticks → quiet.tickIsNews (afterTicks count station) ≡ false) × (quiet.tickIsNews (afterTicks ticks station) ≡ true)
+quiet-till station few ticks told = subst (quiet.Exactly station) told (quiet-exact station few)
+
+-- else no tick ever does.
+pub quiet-for-ever : (station : Station) → station .own .watch .0 < 256 → quiet.quietOf station ≡ quiet.never
+    → (count : ℕ) → quiet.tickIsNews (afterTicks count station) ≡ false
+quiet-for-ever station few told = subst (quiet.Exactly station) told (quiet-exact station few)
 
 -- AREAS AND BLOCKS. Two parts of an area overlap just where some word belongs to both,
 pub overlap-is-shared : (a b : Part) → partsOverlap a b ≡ true → (word : ℕ) × Holds a word × Holds b word

@@ -1,7 +1,9 @@
 -- Laws of ticks one after the other. Assumes nothing.
-use Rattle.laws.specs.Usual.{_≡_, refl, sym, ap, _∙_, ℕ, suc, _+_, arith}
+use Rattle.laws.specs.Usual.{_≡_, refl, sym, ap, _∙_, ℕ, suc, _+_, arith, replicate}
 use Prim.Native.Nat.{zero}
+use Rattle.settling.specs.Steps.{afterAll}
 use Rattle.station.specs.Outcomes.TickCases.{TickCases, off, listens, starts, lapses, begins, givesUp, learns, waits, ends, runs, tick-cases}
+use Rattle.station.specs.Rules.Calls.{tick, after}
 use Rattle.station.specs.Rules.Ticking.{Ticking, tickAnswer, tickOf}
 use Rattle.station.specs.declared.Station.{Station}
 use Rattle.quiet.specs.Many.{afterTicks, ticksOf}
@@ -45,3 +47,11 @@ same-answer (suc count) station = same-answer count (tickOf station .station) �
 pub ticks-answer : (count : ℕ) (station : Station) → ticksOf count station .answer ≡ tickAnswer (station .phase)
 ticks-answer zero station = refl
 ticks-answer (suc count) station = same-answer count station
+
+-- as calls
+pub ticks-called : (count : ℕ) (station : Station) → ticksOf count station .station ≡ afterAll after station (replicate count tick)
+ticks-called count station = ticks-station count station ∙ by count station
+  where
+    by : (count : ℕ) (station : Station) → afterTicks count station ≡ afterAll after station (replicate count tick)
+    by zero station = refl
+    by (suc count) station = by count (tickOf station .station)
