@@ -4,7 +4,7 @@ use Rattle.boundary_core.specs.Crossing.{phaseOf, stationIn}
 use Rattle.boundary_core.specs.declared.Core.{Core}
 use Rattle.boundary_lists.specs.Laws.{next-in}
 use Rattle.boundary_lists.specs.Lists.{nextIn}
-use Rattle.quiet.specs.Quiet as quiet
+use Rattle.ticking_quiet.specs.Quiet as quiet
 use Rattle.station.specs.declared.Phase.{Phase}
 use Rattle.boundary_quiet.specs.declared.Quiet.{Quiet}
 

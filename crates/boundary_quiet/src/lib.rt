@@ -4,7 +4,7 @@ use boundary_core::phase_of;
 use station::Phase;
 ghost use Rattle.laws.specs.Usual.{_≡_, cond, List, ℕ};
 ghost use Rattle.boundary_core.specs.Crossing.{stationIn};
-ghost use Rattle.quiet.specs.Quiet.{never, till, quietOf};
+ghost use Rattle.ticking_quiet.specs.Quiet.{never, till, quietOf};
 ghost use Rattle.boundary_quiet.specs.Numbers.{quietNumbers};
 
 // Whether news ever comes with no call between, and the ticks that come before the one that brings it.
@@ -37,7 +37,7 @@ pub fn quiet_ticks(core: Core, listed: &[bool; 256]) -> Quiet
     let waited = core.waited;
     let number = own.number;
     let view = core.view;
-    let left = calm::left_in(phase, own, core.sent, core.rounds, elapsed, waited);
+    let left = ticking_calm::left_in(phase, own, core.sent, core.rounds, elapsed, waited);
     match phase {
         Phase::Off => unless(true, left),
         Phase::Listening => unless(waits::listening_time(number).0 <= elapsed.0, left),

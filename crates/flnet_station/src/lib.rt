@@ -15,8 +15,8 @@ ghost use Rattle.boundary_figure.specs.Figures.{figureNumbers};
 ghost use Rattle.boundary_lists.specs.Lists.{membersIn};
 ghost use Rattle.boundary_quiet.specs.Numbers.{quietNumbers};
 ghost use Rattle.members.specs.Members.{noMembers};
-ghost use Rattle.quiet.specs.Many.{ticksOf};
-ghost use Rattle.quiet.specs.Quiet.{quietOf};
+ghost use Rattle.ticking_quiet.specs.Many.{ticksOf};
+ghost use Rattle.ticking_quiet.specs.Quiet.{quietOf};
 ghost use Rattle.station.specs.Rules.Asking.{askOf};
 ghost use Rattle.station.specs.Rules.Hearing.{hearOf};
 ghost use Rattle.station.specs.Rules.Starting.{startOf, stopOf};
@@ -97,7 +97,7 @@ pub extern "C" fn flnet_ticks(
     ensures { λ r. ⌜ r .answer ≡ tickedAnswer (ticksOf count (stationIn core (now (listed .entry)) (now (areas .entry)) (now (watch .entry)) (now (misses .entry))) .answer) ⌝ }
     ensures { λ _. ⌜ membersIn (now (listed .exit)) (now (areas .exit)) (now (watch .exit)) (now (misses .exit)) ≡ ticksOf count (stationIn core (now (listed .entry)) (now (areas .entry)) (now (watch .entry)) (now (misses .entry))) .station .members ⌝ }
 {
-    boundary_ticks::ticks(core, listed, areas, watch, misses, count)
+    boundary_many_ticks::ticks(core, listed, areas, watch, misses, count)
 }
 
 // How many ticks can come, with no call between, before one brings news. Of the list only the flags matter to it.

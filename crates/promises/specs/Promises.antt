@@ -34,10 +34,10 @@ use Rattle.panel.specs.Texts.{shown-text}
 use Rattle.panel.specs.declared.Figure.the-variants.{Nothing}
 use Rattle.frame_reading.specs.Reading.{readOf, isStation, dataSize}
 use Rattle.frame_reading.specs.Reading as reading
-use Rattle.quiet.specs.Many.{afterTicks, ticksOf}
-use Rattle.quiet.specs.ManyLaws.{ticks-answer, ticks-called}
-use Rattle.quiet.specs.Quiet as quiet
-use Rattle.quiet.specs.QuietExact.{quiet-exact}
+use Rattle.ticking_quiet.specs.Many.{afterTicks, ticksOf}
+use Rattle.ticking_quiet.specs.ManyLaws.{ticks-answer, ticks-called}
+use Rattle.ticking_quiet.specs.Quiet as quiet
+use Rattle.ticking_quiet.specs.QuietExact.{quiet-exact}
 use Rattle.refusals.specs.Applies.{applies, firstOf}
 use Rattle.refusals.specs.FirstApplies.{first-applies}
 use Rattle.replay_lines.specs.Output as replayed

@@ -4,7 +4,7 @@ use Rattle.text_hexadecimal.specs.Octets.{octetsOf}
 use Rattle.replay_commands.specs.declared.Command.{Command}
 use Rattle.replay_commands.specs.declared.Command.the-variants.{Start, Stop, Tick, Hear, Ask, Panel, Poke, Peek, State, Bad}
 use Rattle.copying.specs.Pasted.{pasted}
-use Rattle.quiet.specs.Many.{ticksOf}
+use Rattle.ticking_quiet.specs.Many.{ticksOf}
 use Rattle.replay_replies.specs.Replies.{switchedText, heardText, askedText}
 use Rattle.replay_reply_shown.specs.Shown.{panelText, octetsText}
 use Rattle.replay_reply_state.specs.State.{stateText}

@@ -7,7 +7,7 @@ use station::Station;
 ghost use Rattle.laws.specs.Usual.{_≡_, length, take, drop};
 ghost use Rattle.text_hexadecimal.specs.Octets.{octetsOf};
 ghost use Rattle.copying.specs.Pasted.{pasted};
-ghost use Rattle.quiet.specs.Many.{ticksOf};
+ghost use Rattle.ticking_quiet.specs.Many.{ticksOf};
 ghost use Rattle.replay_performing.specs.Replaying.{pokedBy, digitsIn, keeping, performed};
 ghost use Rattle.replay_replies.specs.Replies.{switchedText, heardText, askedText};
 ghost use Rattle.replay_reply_shown.specs.Shown.{octetsText};
@@ -37,7 +37,7 @@ fn tick(station: Station, count: u32, answer: &mut [u8; 40000]) -> Reply
     ensures { λ r. ⌜ r .length ≡ length (tickedText (ticksOf count station .answer)) ⌝ }
     ensures { λ _. ⌜ now (answer .exit) ≡ pasted (now (answer .entry)) 0 (tickedText (ticksOf count station .answer)) ⌝ }
 {
-    let ticking = ticks::ticks(station, count);
+    let ticking = ticking_many::ticks(station, count);
     let station = ticking.station;
     let done = ticking.answer;
     let length = replay_reply_words::put_ticked(done, answer);

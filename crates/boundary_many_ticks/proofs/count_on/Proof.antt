@@ -1,0 +1,20 @@
+-- `boundary_many_ticks::count_on` meets its contract.
+use borrow.Author.Needs.{needs}
+use Rattle.boundary_many_ticks.proofs.count_on.Statement.{statement}
+use Rattle.boundary_many_ticks.proofs.count_on.Tie as tie
+
+phase-of-requires : tie.Need-phase-of-requires
+phase-of-requires c κs = search needs
+
+counts-after-requires : tie.Need-counts-after-requires
+counts-after-requires c κs = search needs
+
+phase-number-requires : tie.Need-phase-number-requires
+phase-number-requires c κs = search needs
+
+returns : tie.Need-returns
+returns c = rw (c .before .before .phase-number .ensures, c .before .before .before .before .before .before .counts-after .ensures, c .before .before .before .before .before .before .before .before .before .before .before .phase-of .ensures)
+
+pub count-on-spec : {M : Type 1} → statement M
+count-on-spec =
+    tie.close (tie.spec phase-of-requires counts-after-requires phase-number-requires returns)

@@ -1,0 +1,13 @@
+-- `ticking_calm::runs` meets its contract.
+use borrow.Author.Needs.{needs}
+use Rattle.ticking_calm.proofs.runs.Statement.{statement}
+use Rattle.ticking_calm.proofs.runs.Tie as tie
+
+number-wait-requires : tie.Need-number-wait-requires
+number-wait-requires c κs = search needs
+
+returns : tie.Need-returns
+returns c = rw (c .before .before .number-wait .ensures)
+
+pub runs-spec : {M : Type 1} → statement M
+runs-spec = tie.close (tie.spec number-wait-requires returns)
