@@ -3,9 +3,9 @@
 use flnet_conformance::boundary::Station;
 use flnet_conformance::engine::Engine;
 use flnet_conformance::frames::Frame;
-use flnet_conformance::model::frame::Code;
+use flnet_conformance::model::frame::{at, Code};
 use flnet_conformance::model::{waits, Areas, Model, Part, Settings, MEMORY, OUTPUT};
-use flnet_conformance::names::{KEPT, WRITTEN};
+use flnet_conformance::names::{DROPPED, KEPT, WRITTEN};
 use flnet_conformance::random::Random;
 use std::hint::black_box;
 use std::time::{Duration, Instant};
@@ -228,18 +228,65 @@ fn ask_refused<E: Engine + Default>() -> impl FnMut() -> f64 {
     measurement(16_000, 1, move || assert_eq!(station.ask(), 0))
 }
 
-/// A frame that is refused, 1088 octets long, at a participant.
-fn hear_refused<E: Engine + Default>(frame: Vec<u8>) -> impl FnMut() -> f64 {
+/// A frame that brings no data, at a participant that lists station 2.
+fn hear_plain<E: Engine + Default>(frame: Vec<u8>) -> impl FnMut() -> f64 {
     let mut station = Host::<E>::participant(share(9, 512), &[share(2, 512)]);
     measurement(16_000, 1, move || assert_eq!(station.hear(black_box(&frame)), 0))
 }
 
-/// A frame with another mark, and a block of a station that is not listed.
-fn refused_frames() -> (Vec<u8>, Vec<u8>) {
-    let stranger = octets(Code::Cyclic, &share(3, 512), 2, 1);
-    let mut garbage = stranger.clone();
-    garbage[0] ^= 1;
-    (garbage, stranger)
+/// Such frames: 1088 octets that are refused, then a trigger, and a request that is listed again.
+fn plain_frames() -> Vec<(&'static str, Vec<u8>)> {
+    let listed = octets(Code::Cyclic, &share(2, 512), 9, 1);
+    let with = |place: usize, value: u8| {
+        let mut changed = listed.clone();
+        changed[place] = value;
+        changed
+    };
+    let random = &mut Random::new(1);
+    vec![
+        ("hear a frame with another mark", with(at::H_TYPE, 0)),
+        ("hear a frame with our number (6)", with(at::SNA, 9)),
+        ("hear an area out of its range (7)", with(at::C_AD2, 255)),
+        ("hear block 0 (8)", with(at::CBN, 0)),
+        ("hear a block of a station not listed", with(at::SNA, 3)),
+        ("hear a trigger", Frame::trigger(2).octets(random)),
+        (
+            "hear a request",
+            Frame::request(2, share(2, 512).areas).octets(random),
+        ),
+    ]
+}
+
+/// A station in its first round of joining, which learns from each block.
+fn hear_joining<E: Engine + Default>() -> impl FnMut() -> f64 {
+    let other = share(2, 512);
+    let mut station = Host::<E>::started(share(9, 512));
+    station.hear(&octets(Code::Token, &other, 3, 1));
+    hear(station, vec![octets(Code::Cyclic, &other, 3, 1)], DROPPED)
+}
+
+/// Ten ticks, the last of which ends the watch: by turns the other's, who gets a miss, and ours. A
+/// block heard after the second miss, which clears them, is not in it.
+fn tick_watch<E: Engine + Default>() -> impl FnMut() -> f64 {
+    const ROUNDS: u32 = 2000;
+    const WATCHES: u32 = 4;
+    let other = share(2, 512);
+    let own = Settings {
+        watch: 1,
+        ..share(9, 512)
+    };
+    let mut station = Host::<E>::participant(own, &[other]);
+    let block = octets(Code::Cyclic, &other, 9, 1);
+    move || {
+        let mut spent = Duration::ZERO;
+        for _ in 0..ROUNDS {
+            station.hear(&block);
+            let begin = Instant::now();
+            (0..WATCHES * waits::watch(1)).for_each(|_| station.tick());
+            spent += begin.elapsed();
+        }
+        spent.as_nanos() as f64 / f64::from(ROUNDS * WATCHES)
+    }
 }
 
 fn ring_of<E: Engine + Default>(stations: u8) -> Vec<Host<E>> {
@@ -325,18 +372,25 @@ fn main() {
         ask_refused::<Station>(),
         ask_refused::<Model>(),
     );
-    let (garbage, stranger) = refused_frames();
     line(
-        "hear a frame with another mark",
+        "ten ticks, the last ends the watch",
         NANOSECOND,
-        hear_refused::<Station>(garbage.clone()),
-        hear_refused::<Model>(garbage),
+        tick_watch::<Station>(),
+        tick_watch::<Model>(),
     );
+    for (what, frame) in plain_frames() {
+        line(
+            what,
+            NANOSECOND,
+            hear_plain::<Station>(frame.clone()),
+            hear_plain::<Model>(frame),
+        );
+    }
     line(
-        "hear a block of a station not listed",
+        "hear a block in joining",
         NANOSECOND,
-        hear_refused::<Station>(stranger.clone()),
-        hear_refused::<Model>(stranger),
+        hear_joining::<Station>(),
+        hear_joining::<Model>(),
     );
     line(
         "hear a token frame, 1024 octets written",

@@ -1,4 +1,4 @@
-// Next, by the flags alone of a station list in arrays.
+// The first listed number from a number on, and next, by the flags alone of a station list in arrays.
 ghost use Rattle.laws.specs.Usual.{_≡_, _+_, _≤_, min};
 ghost use Rattle.members_searching.specs.Search.{firstFrom, numberOr};
 ghost use Rattle.boundary_lists.specs.Lists.{flagged, nextIn, anyOfFour, anyOfSixteen};
@@ -36,7 +36,7 @@ fn skip(listed: &[bool; 256], from: usize, end: usize) -> usize
 }
 
 // The first listed number from `from` on and below `end`, or `end` where there is none.
-fn first_listed(listed: &[bool; 256], from: usize, end: usize) -> usize
+pub fn first_listed(listed: &[bool; 256], from: usize, end: usize) -> usize
     requires { ⌜ from ≤ 256 ⌝ }
     requires { ⌜ end ≤ 256 ⌝ }
     ensures { λ r. ⌜ r ≡ min end (numberOr end (firstFrom from (flagged (now (listed .entry))))) ⌝ }

@@ -2,12 +2,11 @@
 use area::Areas;
 use members::Entry;
 use units::Milliseconds;
-ghost use Rattle.laws.specs.Usual.{_≡_, cond, _&&_, _||_};
+ghost use Rattle.laws.specs.Usual.{_≡_, cond, not, _&&_, _||_};
 ghost use Rattle.area.specs.Overlap.{areasOverlap};
 ghost use Rattle.boundary_lists.specs.Lists.{membersIn};
 ghost use Rattle.members.specs.Listing.{bare, overlapsOther, listing};
 
-// Most numbers are not listed, so that is asked first.
 fn overlaps_entry(entry: Entry, other: bool, parts: Areas) -> bool
     ensures { λ r. ⌜ r ≡ ((entry .listed && other) && areasOverlap parts (entry .areas)) ⌝ }
 {
@@ -29,13 +28,13 @@ fn overlaps_other(
     ensures { λ r. ⌜ r ≡ overlapsOther (membersIn (now (listed .entry)) (now (areas .entry)) (now (watch .entry)) (now (misses .entry))) number parts ⌝ }
 {
     let own = number as usize;
-    let mut other: usize = 0;
+    let mut other = boundary_flags::first_listed(listed, 0, 256);
     while other < 256 {
         let entry = boundary_lists::entry_at(listed, areas, watch, misses, other as u8);
         if overlaps_entry(entry, other != own, parts) {
             return true;
         }
-        other += 1;
+        other = boundary_flags::first_listed(listed, other + 1, 256);
     }
     false
 }

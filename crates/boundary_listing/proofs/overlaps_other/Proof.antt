@@ -1,11 +1,12 @@
 -- `boundary_listing::overlaps_other` meets its contract.
-use Rattle.laws.specs.Usual.{_≡_, refl, sym, ap, _∙_, not, _&&_, _-_, arith, length, drop, eqb, needs}
+use Rattle.laws.specs.Usual.{_≡_, sym, ap, _∙_, not, _&&_, _+_, _-_, arith, length, drop, eqb, needs}
 use Rattle.area.specs.Overlap.{areasOverlap}
 use Rattle.boundary_lists.specs.Laws.{length-in}
 use Rattle.boundary_lists.specs.Lists.{membersIn}
 use Rattle.members.specs.Listing.{overlapFrom}
 use Rattle.members.specs.Loops.{overlap-end, overlap-more}
 use Rattle.members.specs.declared.Entry.{Entry}
+use Rattle.boundary_listing.specs.Skipping.{overlapAt, passed-over}
 use Rattle.boundary_listing.proofs.overlaps_other.Statement.{statement}
 use Rattle.boundary_listing.proofs.overlaps_other.Tie as tie
 
@@ -17,8 +18,14 @@ Inv-loop listed areas watch misses number parts own other₀ other =
 abbrev μ-loop : tie.MeasureT-loop
 μ-loop listed areas watch misses number parts own other₀ other = 256 - other
 
+first-listed-requires : tie.Need-first-listed-requires Inv-loop μ-loop
+first-listed-requires c κs = search needs
+
 loop-holds : tie.Need-loop-holds Inv-loop μ-loop
-loop-holds c = refl
+loop-holds c =
+    let a = c .before .args in
+    ap (overlapAt (a .listed .now) (a .areas .now) (a .watch .now) (a .misses .now) (a .number) (a .parts)) (c .first-listed .ensures)
+    ∙ sym (passed-over (a .listed .now) (a .areas .now) (a .watch .now) (a .misses .now) (a .number) (a .parts) 0 (omega arith) .0)
 
 cast-entry-at : tie.Need-cast-entry-at Inv-loop μ-loop
 cast-entry-at c = search needs
@@ -31,7 +38,7 @@ overlaps-entry-requires c κs = search needs
 
 returns : tie.Need-returns Inv-loop μ-loop
 returns c =
-    let a = c .before .before .before .before .before .args in
+    let a = c .before .before .before .before .before .before .args in
     let loop = c .before .before .before .before .loop in
     let members = membersIn (a .listed .now) (a .areas .now) (a .watch .now) (a .misses .now) in
     let all : length (members .entries) ≡ 256 = length-in (a .listed .now) (a .areas .now) (a .watch .now) (a .misses .now) in
@@ -40,26 +47,35 @@ returns c =
     ∙ ap (λ (e : Entry). (e .listed && not (eqb (loop .other) (a .number))) && areasOverlap (a .parts) (e .areas)) (c .before .before .entry-at .ensures) in
     sym (more ∙ rw (← here, c .if1 .taken)) ∙ loop .inv
 
-add-other : tie.Need-add-other Inv-loop μ-loop
-add-other c = search needs
+add-first-listed : tie.Need-add-first-listed Inv-loop μ-loop
+add-first-listed c = search needs
+
+first-listed-requires-2 : tie.Need-first-listed-requires-2 Inv-loop μ-loop
+first-listed-requires-2 c κs = search needs
 
 loop-less : tie.Need-loop-less Inv-loop μ-loop
-loop-less c = search needs
+loop-less c =
+    let a = c .before .before .before .before .before .before .before .args in
+    let passed = passed-over (a .listed .now) (a .areas .now) (a .watch .now) (a .misses .now) (a .number) (a .parts) (c .before .before .before .before .before .loop .other + 1) (omega arith) in
+    omega (arith, passed .1, c .first-listed2 .ensures)
 
 loop-again : tie.Need-loop-again Inv-loop μ-loop
 loop-again c =
-    let a = c .before .before .before .before .before .args in
-    let loop = c .before .before .before .before .loop in
+    let a = c .before .before .before .before .before .before .before .args in
+    let loop = c .before .before .before .before .before .loop in
     let members = membersIn (a .listed .now) (a .areas .now) (a .watch .now) (a .misses .now) in
     let all : length (members .entries) ≡ 256 = length-in (a .listed .now) (a .areas .now) (a .watch .now) (a .misses .now) in
     let more = overlap-more (members .entries) (loop .other) (a .number) (a .parts) (omega arith) in
-    let here = c .before .overlaps-entry .ensures
-    ∙ ap (λ (e : Entry). (e .listed && not (eqb (loop .other) (a .number))) && areasOverlap (a .parts) (e .areas)) (c .before .before .entry-at .ensures) in
-    sym (more ∙ rw (← here, c .if1 .left)) ∙ loop .inv
+    let here = c .before .before .overlaps-entry .ensures
+    ∙ ap (λ (e : Entry). (e .listed && not (eqb (loop .other) (a .number))) && areasOverlap (a .parts) (e .areas)) (c .before .before .before .entry-at .ensures) in
+    ap (overlapAt (a .listed .now) (a .areas .now) (a .watch .now) (a .misses .now) (a .number) (a .parts)) (c .first-listed2 .ensures)
+    ∙ sym (passed-over (a .listed .now) (a .areas .now) (a .watch .now) (a .misses .now) (a .number) (a .parts) (loop .other + 1) (omega arith) .0)
+    ∙ sym (more ∙ rw (← here, c .before .if1 .left))
+    ∙ loop .inv
 
 returns-2 : tie.Need-returns-2 Inv-loop μ-loop
 returns-2 c =
-    let a = c .before .before .args in
+    let a = c .before .before .before .args in
     let members = membersIn (a .listed .now) (a .areas .now) (a .watch .now) (a .misses .now) in
     let all : length (members .entries) ≡ 256 = length-in (a .listed .now) (a .areas .now) (a .watch .now) (a .misses .now) in
     sym (overlap-end (members .entries) (c .before .loop .other) (a .number) (a .parts) (omega arith)) ∙ c .before .loop .inv
@@ -70,12 +86,14 @@ overlaps-other-spec =
     (tie.spec
     Inv-loop
     μ-loop
+    first-listed-requires
     loop-holds
     cast-entry-at
     entry-at-requires
     overlaps-entry-requires
     returns
-    add-other
+    add-first-listed
+    first-listed-requires-2
     loop-less
     loop-again
     returns-2)
