@@ -1,11 +1,10 @@
 -- Ticks that only count, on a core: they do not touch the list. Assumes nothing.
-use Rattle.laws.specs.Usual.{_≡_, refl, sym, ap, _∙_, Bool, true, ℕ, eqb}
+use Rattle.laws.specs.Usual.{_≡_, sym, _∙_, Bool, true, ℕ, eqb}
 use native.Mathlib.Nat.{le-of-eq}
 use borrow.Author.Tests.{eqb-true}
 use Rattle.members.specs.Members.{noMembers}
 use Rattle.members.specs.declared.Members.{Members}
 use Rattle.station.specs.Rules.Ticking.{tickAnswer}
-use Rattle.station.specs.declared.Station.{Station}
 use Rattle.ticking_quiet.specs.Many.{ticksOf}
 use Rattle.ticking_quiet.specs.ManyLaws.{ticks-station, ticks-answer}
 use Rattle.ticking_calm.specs.Calm.{calmOf, calmAfter}

@@ -5,7 +5,7 @@ use boundary_core::phase_number;
 use boundary_core::phase_of;
 use boundary_core::ticked_answer;
 use ticking_calm::Counts;
-ghost use Rattle.laws.specs.Usual.{_≡_, eqb};
+ghost use Rattle.laws.specs.Usual.{_≡_};
 ghost use Rattle.boundary_answers.specs.Numbers.{tickedAnswer};
 ghost use Rattle.boundary_core.specs.Crossing.{coreOf, stationIn};
 ghost use Rattle.boundary_lists.specs.Lists.{membersIn};

@@ -1,5 +1,5 @@
 -- The ticks that only count: all but those in which a wait or the watch ends.
-use Rattle.laws.specs.Usual.{_≡_, false, cond, ℕ, suc, min, eqb}
+use Rattle.laws.specs.Usual.{false, cond, ℕ, suc, min, eqb}
 use Prim.Native.Nat.{zero}
 use Rattle.panel.specs.Panel.{ticked}
 use Rattle.station.specs.Rules.State.{counted}

@@ -1,6 +1,7 @@
 -- Ticks that only count leave the counts that are said. Assumes nothing.
 use Rattle.laws.specs.Usual.{_≡_, refl, sym, ap, _∙_, Bool, true, false, cond, _&&_, false≢true, ℕ, suc, _+_, _<_, _≤_, min, arith, eqb, leb, ltb}
 use Prim.Native.Nat.{zero}
+use mathlib.Core.Bool.{and-false}
 use native.Mathlib.Nat.{le-refl}
 use borrow.Author.Tests.{lt-leb, le-ltb, ltb-true, ltb-false}
 use Rattle.station.specs.Rules.State.{counted}
@@ -24,11 +25,7 @@ runs-on number most count ticks true r f g =
     let sum = not-above most count ticks in
     let short = f refl in
     rw (lt-leb (numberWait number) (min most (laterBy most count ticks .0 + 1)) (omega (arith, sum, short)))
-    (neither (ltb (laterBy most count ticks .0) (numberWait number)))
-  where
-    neither : (test : Bool) → (test && false) ≡ false
-    neither true = refl
-    neither false = refl
+    (and-false (ltb (laterBy most count ticks .0) (numberWait number)))
 runs-on number most count ticks false r f g =
     let h = ltb-false (ticks .0) (numberWait number) r in
     rw (le-ltb (laterBy most count ticks .0) (numberWait number) (not-below most count (numberWait number) ticks h (g refl)))

@@ -1,15 +1,14 @@
 -- A participant that holds and is alone: whenever its watch ends, it is its own next, and the watch restarts. Its ticks go round its watch. Assumes
 -- nothing.
-use Rattle.laws.specs.Usual.{_≡_, refl, sym, ap, _∙_, Bool, true, false, cond, not, _&&_, false≢true, ℕ, suc, _+_, _*_, _/_, _%_, _<_, _≤_, min, arith, eqb, leb, ltb}
+use Rattle.laws.specs.Usual.{_≡_, refl, sym, ap, _∙_, Bool, true, false, not, _&&_, false≢true, ℕ, suc, _+_, _*_, _/_, _%_, _<_, _≤_, min, arith, eqb, leb, ltb}
 use Prim.Native.Nat.{zero}
 use native.Mathlib.Nat.{div-add-mod', mod-lt, mod-eq-of-lt, suc-mul}
 use borrow.Author.Tests.{eqb-true, eq-eqb, ltb-true, leb-true, leb-false, not-true}
 use lib.Arith.{digits-mod}
 use Rattle.laws.specs.Tests.{first, second}
 use Rattle.members.specs.Members.{isListed, nextAfter}
-use Rattle.panel.specs.Panel.{ticked}
 use Rattle.station.specs.Rules.State.{isParticipating, holds, counted}
-use Rattle.station.specs.Rules.Ticking.{watchOf, watchEnds, tickOf, tickedBy as tickedIn}
+use Rattle.station.specs.Rules.Ticking.{watchOf, tickOf}
 use Rattle.station.specs.Rules.Waits.{longestWatch}
 use Rattle.station.specs.declared.Phase.{Phase}
 use Rattle.station.specs.declared.Phase.the-variants.{Off, Listening, Startup, Joining, Participating}

@@ -1,5 +1,5 @@
 -- Laws of ticks one after the other. Assumes nothing.
-use Rattle.laws.specs.Usual.{_≡_, refl, sym, ap, _∙_, ℕ, suc, _+_, arith, replicate}
+use Rattle.laws.specs.Usual.{_≡_, refl, ap, _∙_, ℕ, suc, _+_, arith, replicate}
 use Prim.Native.Nat.{zero}
 use Rattle.settling.specs.Steps.{afterAll}
 use Rattle.station.specs.Outcomes.TickCases.{TickCases, off, listens, starts, lapses, begins, givesUp, learns, waits, ends, runs, tick-cases}

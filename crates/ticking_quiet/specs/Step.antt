@@ -1,14 +1,15 @@
 -- What one tick does to the ticks that are left. Assumes nothing.
-use Rattle.laws.specs.Usual.{_≡_, refl, sym, ap, ap₂, subst, _∙_, Bool, true, false, cond, not, _&&_, _||_, false≢true, List, [], _∷_, ℕ, suc, _+_, _-_, _<_, _≤_, min, arith, eqb, leb, ltb}
+use Rattle.laws.specs.Usual.{_≡_, refl, sym, ap, ap₂, _∙_, Bool, true, false, cond, not, _&&_, _||_, false≢true, List, [], _∷_, ℕ, suc, _+_, _-_, _<_, _≤_, min, arith, eqb, leb, ltb}
 use Prim.Native.Nat.{zero}
+use mathlib.Core.Bool.{and-false}
 use native.Mathlib.Nat.{le-refl}
-use borrow.Author.Tests.{eq-eqb, eqb-true, eqb-false, le-leb, leb-true, leb-false, ltb-true, ltb-false, lt-ltb, le-ltb, lt-leb}
-use Rattle.members.specs.Members.{numbersOf, nextAfter, missed, smallest}
+use borrow.Author.Tests.{eq-eqb, eqb-true, le-leb, leb-true, leb-false, ltb-true, ltb-false, lt-ltb, le-ltb, lt-leb}
+use Rattle.members.specs.Members.{numbersOf}
 use Rattle.panel.specs.Panel.{ticked}
 use Rattle.station.specs.Rules.Answers.{phaseNumber}
 use Rattle.members.specs.Listing.{bare, overlapsListed}
 use Rattle.station.specs.Rules.Asking.{placedIn}
-use Rattle.station.specs.Rules.Starting.{startedUp, ownDue}
+use Rattle.station.specs.Rules.Starting.{startedUp}
 use Rattle.station.specs.Rules.State.{counted, fresh}
 use Rattle.station.specs.Rules.Ticking.{later, waitEnds, waitedThen, fallsDue, joiningWait, watchEnded, watchEnds, watchOf, tickedBy, tickOf}
 use Rattle.station.specs.Rules.Waits.{detectionWait, acceptanceTime, numberWait, listeningTime, longestWatch}
@@ -107,10 +108,6 @@ module _ (station : Station) where
   sooner time count time′ count′ ticks e =
       ap₂ min (one-less time count) (one-less time′ count′) ∙ less-one (before time count) (before time′ count′) ticks e
 
-  neither : (test : Bool) → (test && false) ≡ false
-  neither true = refl
-  neither false = refl
-
   -- a wait that ends with this tick leaves none before it
   at-once : (awaited : Bool) (request ticks : ℕ) → ticks ≡ 0 → beforeRequest awaited request ticks ≡ 0
   at-once true request ticks e = omega arith
@@ -151,7 +148,7 @@ module _ (station : Station) where
           → (ticks : ℕ) → beforeRequest (not sent && more) (before wait elapsed) left ≡ ticks → Step station after (till ticks)
       by sent s more r zero l = at-last sent s more r l
       by true s more r (suc ticks) l =
-          later-on ticks (none-due station after refl refl (rw (p, s) (neither (leb (numberWait (own .number)) (min acceptanceTime (elapsed + 1))))))
+          later-on ticks (none-due station after refl refl (rw (p, s) (and-false (leb (numberWait (own .number)) (min acceptanceTime (elapsed + 1))))))
           (rw (p, s) (ap till (omega arith)))
       by false s true r (suc ticks) l =
           let h = ltb-true elapsed wait r in

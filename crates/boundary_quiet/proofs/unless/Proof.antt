@@ -1,5 +1,4 @@
 -- `boundary_quiet::unless` meets its contract.
-use Rattle.laws.specs.Usual.{needs}
 use Rattle.boundary_quiet.proofs.unless.Statement.{statement}
 use Rattle.boundary_quiet.proofs.unless.Tie as tie
 

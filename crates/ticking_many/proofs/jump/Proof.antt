@@ -1,7 +1,7 @@
 -- `ticking_many::jump` meets its contract.
 use Rattle.laws.specs.Usual.{_≡_, sym, ap, _∙_, true, ℕ, _+_, _-_, _<_, arith, needs}
 use native.Mathlib.Nat.{le-refl, mod-lt}
-use borrow.Author.Tests.{not-true, not-false}
+use borrow.Author.Tests.{not-false}
 use Rattle.ticking_calm.specs.Calm.{calmOf}
 use Rattle.ticking_calm.specs.CalmTicks.{calm-few, calm-ticks}
 use Rattle.ticking_quiet.specs.Many.{afterTicks}
