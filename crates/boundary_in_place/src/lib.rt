@@ -7,7 +7,7 @@ use boundary_participant::sent_block;
 use frame::Fields;
 ghost use Rattle.laws.specs.Usual.{_≡_, true, false, getD};
 ghost use Rattle.boundary_core.specs.Crossing.{coreOf, stationIn};
-ghost use Rattle.boundary_answers.specs.Numbers.{heardAnswer, askedAnswer};
+ghost use Rattle.boundary_told.specs.Told.{heardTold, askedTold};
 ghost use Rattle.boundary_participant.specs.Quick.{isAccepted, holdsBlock};
 ghost use Rattle.boundary_lists.specs.Lists.{membersIn};
 ghost use Rattle.frame_reading.specs.Reading.{readOf};
@@ -35,7 +35,7 @@ pub fn hear(
     requires { ⌜ source ≡ frame .source ⌝ }
     requires { ⌜ destination ≡ frame .destination ⌝ }
     ensures { λ r. ⌜ r .core ≡ coreOf (hearOf (stationIn core (now (listed .entry)) (now (areas .entry)) (now (watch .entry)) (now (misses .entry))) (now (octets .entry)) (now (memory .entry)) (now (assembly .entry)) .station) ⌝ }
-    ensures { λ r. ⌜ r .answer ≡ heardAnswer (hearOf (stationIn core (now (listed .entry)) (now (areas .entry)) (now (watch .entry)) (now (misses .entry))) (now (octets .entry)) (now (memory .entry)) (now (assembly .entry)) .answer) ⌝ }
+    ensures { λ r. ⌜ r .answer ≡ heardTold (now (octets .entry)) (hearOf (stationIn core (now (listed .entry)) (now (areas .entry)) (now (watch .entry)) (now (misses .entry))) (now (octets .entry)) (now (memory .entry)) (now (assembly .entry)) .answer) ⌝ }
     ensures { λ _. ⌜ now (memory .exit) ≡ hearOf (stationIn core (now (listed .entry)) (now (areas .entry)) (now (watch .entry)) (now (misses .entry))) (now (octets .entry)) (now (memory .entry)) (now (assembly .entry)) .memory ⌝ }
     ensures { λ _. ⌜ now (assembly .exit) ≡ hearOf (stationIn core (now (listed .entry)) (now (areas .entry)) (now (watch .entry)) (now (misses .entry))) (now (octets .entry)) (now (memory .entry)) (now (assembly .entry)) .assembly ⌝ }
     ensures { λ _. ⌜ membersIn (now (listed .exit)) (now (areas .exit)) (now (watch .exit)) (now (misses .exit)) ≡ hearOf (stationIn core (now (listed .entry)) (now (areas .entry)) (now (watch .entry)) (now (misses .entry))) (now (octets .entry)) (now (memory .entry)) (now (assembly .entry)) .station .members ⌝ }
@@ -59,15 +59,16 @@ pub fn ask(
     requires { ⌜ holdsBlock core ≡ true ⌝ }
     requires { ⌜ asks.lentRight (now memory) (now turn) (now output) ≡ true ⌝ }
     ensures { λ r. ⌜ r .core ≡ coreOf (asks.askOf (stationIn core (now (listed .entry)) (now (areas .entry)) (now (watch .entry)) (now (misses .entry))) (now (memory .entry)) (now (turn .entry)) (now (output .entry)) .station) ⌝ }
-    ensures { λ r. ⌜ r .answer ≡ askedAnswer (asks.askOf (stationIn core (now (listed .entry)) (now (areas .entry)) (now (watch .entry)) (now (misses .entry))) (now (memory .entry)) (now (turn .entry)) (now (output .entry)) .answer) ⌝ }
+    ensures { λ r. ⌜ r .answer ≡ askedTold (asks.askOf (stationIn core (now (listed .entry)) (now (areas .entry)) (now (watch .entry)) (now (misses .entry))) (now (memory .entry)) (now (turn .entry)) (now (output .entry)) .output) (asks.askOf (stationIn core (now (listed .entry)) (now (areas .entry)) (now (watch .entry)) (now (misses .entry))) (now (memory .entry)) (now (turn .entry)) (now (output .entry)) .answer) ⌝ }
     ensures { λ _. ⌜ now (turn .exit) ≡ asks.askOf (stationIn core (now (listed .entry)) (now (areas .entry)) (now (watch .entry)) (now (misses .entry))) (now (memory .entry)) (now (turn .entry)) (now (output .entry)) .turn ⌝ }
     ensures { λ _. ⌜ now (output .exit) ≡ asks.askOf (stationIn core (now (listed .entry)) (now (areas .entry)) (now (watch .entry)) (now (misses .entry))) (now (memory .entry)) (now (turn .entry)) (now (output .entry)) .output ⌝ }
 {
     let own = core.own;
     let next = boundary_flags::next_after(own.number, listed, own.number);
     let octets = asking_sending::send_next(own, core.block, next, memory, turn, output);
+    let answer = boundary_told::tell_written(frame_answer(octets), output);
     Outcome {
         core: sent_block(core, next),
-        answer: frame_answer(octets),
+        answer,
     }
 }

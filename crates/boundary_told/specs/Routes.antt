@@ -24,6 +24,7 @@ use Rattle.station.specs.Rules.Data.{gathered}
 use Rattle.station.specs.Rules.Hearing.{enters, participantHeard, accepted, isTaken, afterTaken, isStranger, lentRight, refused, bodyHeard, headerHeard, hearOf}
 use Rattle.station.specs.Rules.State.{isOff, isParticipating}
 use Rattle.station.specs.declared.Data.the-variants.{Dropped}
+use Rattle.station.specs.declared.Heard.{Heard}
 use Rattle.station.specs.declared.Heard.the-variants as answers
 use Rattle.station.specs.declared.Token.the-variants.{None}
 use Rattle.station.specs.declared.Station.{Station}
@@ -57,6 +58,22 @@ code-told number code e = by (eqb number 65000) refl (eqb number 65001) refl (eq
     by false _ false _ true is g _ h = sym (ap codeNumber (same h)) ∙ sym (eqb-true number 65002 is)
     by false _ false _ false _ true is h = sym (ap codeNumber (same h)) ∙ sym (eqb-true number 65012 is)
     by false _ false _ false _ false _ h = let z : _≡_ {A = ℕ} 0 1 = cc in absurd (omega arith)
+
+-- an answer with the route of the frame that was read
+pub told-read : (octets : List ℕ) (frame : Fields) (answer : Heard) → readOf octets ≡ Frame frame
+    → withFrame (heardAnswer answer) (routeOf frame) ≡ heardTold octets answer
+told-read octets frame answer read = ap (λ (r : Read). withFrame (heardAnswer answer) (routeRead r)) (sym read)
+
+-- and where none was read, of no frame
+pub told-unread : (octets : List ℕ) (refusal : Refusal) (answer : Heard) {told : Answer} → readOf octets ≡ Refused refusal
+    → told ≡ heardAnswer answer → told ≡ heardTold octets answer
+told-unread octets refusal answer unread e = e ∙ bare answer ∙ ap (λ (r : Read). withFrame (heardAnswer answer) (routeRead r)) (sym unread)
+  where
+    bare : (a : Heard) → heardAnswer a ≡ withFrame (heardAnswer a) noFrame
+    bare answers.Off = refl
+    bare answers.Done = refl
+    bare (answers.Cyclic token) = refl
+    bare (answers.Refused r) = refl
 
 -- octets that read as a frame hold its route
 pub read-told : (octets : List ℕ) (frame : Fields) → readOf octets ≡ Frame frame → routeIn octets ≡ routeOf frame
@@ -100,6 +117,13 @@ in-parts : (octets : List ℕ) → readOf octets ≡ andThen (readHeaderOf octet
 unfolding readOf
 in-parts octets = refl
 
+pub header-unread : (octets : List ℕ) (refusal : Refusal) → readHeaderOf octets ≡ Refused refusal → readOf octets ≡ Refused refusal
+header-unread octets refusal h = in-parts octets ∙ rw h
+
+pub body-unread : (octets : List ℕ) (header : Fields) (refusal : Refusal) → readHeaderOf octets ≡ Frame header
+    → readBodyOf (length octets) header ≡ Refused refusal → readOf octets ≡ Refused refusal
+body-unread octets header refusal h b = in-parts octets ∙ rw h b
+
 -- what a refusal of the reading tells
 unread : (octets : List ℕ) (refusal : Refusal) → readOf octets ≡ Refused refusal → notStranger (Refused refusal) ≡ true
     → routeHeard octets (refusedAnswer refusal) ≡ routeRead (readOf octets)
@@ -134,7 +158,7 @@ module _ (station : Station) (octets memory assembly : List ℕ) where
   told-body : (header : Fields) → readHeaderOf octets ≡ Frame header → (read : Read) → readBodyOf (length octets) header ≡ read
       → routeHeard octets (heardAnswer (bodyHeard station octets memory assembly read .answer)) ≡ routeRead (readOf octets)
   told-body header h (Refused refusal) b =
-      unread octets refusal (in-parts octets ∙ rw h b) (sym (ap notStranger b) ∙ body-not (length octets) header)
+      unread octets refusal (body-unread octets header refusal h b) (sym (ap notStranger b) ∙ body-not (length octets) header)
   told-body header h (Frame frame) b = by (isStranger station frame)
     where
       read : readOf octets ≡ Frame frame
@@ -148,7 +172,7 @@ module _ (station : Station) (octets memory assembly : List ℕ) where
 
   told-header : (read : Read) → readHeaderOf octets ≡ read
       → routeHeard octets (heardAnswer (headerHeard station octets memory assembly read .answer)) ≡ routeRead (readOf octets)
-  told-header (Refused refusal) h = unread octets refusal (in-parts octets ∙ rw h) (sym (ap notStranger h) ∙ header-not octets)
+  told-header (Refused refusal) h = unread octets refusal (header-unread octets refusal h) (sym (ap notStranger h) ∙ header-not octets)
   told-header (Frame header) h = by (isTaken station header)
     where
       by : (taken : Bool)

@@ -26,6 +26,14 @@ fn route_of(frame: Fields) -> Route
     }
 }
 
+// The answer to a frame that was read.
+pub fn tell_read(answer: Answer, frame: Fields) -> Answer
+    ensures { λ r. ⌜ r ≡ withFrame answer (routeOf frame) ⌝ }
+{
+    let frame = route_of(frame);
+    Answer { frame, ..answer }
+}
+
 // The octets read once more.
 fn route_read(s: &[u8]) -> Route
     ensures { λ r. ⌜ r ≡ routeRead (readOf (now (s .entry))) ⌝ }

@@ -125,7 +125,7 @@ pub extern "C" fn flnet_hear(
     ensures { λ _. ⌜ now (assembly .exit) ≡ hearOf (stationIn core (now (listed .entry)) (now (areas .entry)) (now (watch .entry)) (now (misses .entry))) (now (octets .entry)) (now (memory .entry)) (now (assembly .entry)) .assembly ⌝ }
     ensures { λ _. ⌜ membersIn (now (listed .exit)) (now (areas .exit)) (now (watch .exit)) (now (misses .exit)) ≡ hearOf (stationIn core (now (listed .entry)) (now (areas .entry)) (now (watch .entry)) (now (misses .entry))) (now (octets .entry)) (now (memory .entry)) (now (assembly .entry)) .station .members ⌝ }
 {
-    boundary_telling::hear(core, listed, areas, watch, misses, octets, memory, assembly)
+    boundary_calls::hear(core, listed, areas, watch, misses, octets, memory, assembly)
 }
 
 #[no_mangle]
@@ -145,7 +145,7 @@ pub extern "C" fn flnet_ask(
     ensures { λ _. ⌜ now (output .exit) ≡ askOf (stationIn core (now (listed .entry)) (now (areas .entry)) (now (watch .entry)) (now (misses .entry))) (now (memory .entry)) (now (turn .entry)) (now (output .entry)) .output ⌝ }
     ensures { λ _. ⌜ membersIn (now (listed .exit)) (now (areas .exit)) (now (watch .exit)) (now (misses .exit)) ≡ askOf (stationIn core (now (listed .entry)) (now (areas .entry)) (now (watch .entry)) (now (misses .entry))) (now (memory .entry)) (now (turn .entry)) (now (output .entry)) .station .members ⌝ }
 {
-    boundary_telling::ask(core, listed, areas, watch, misses, memory, turn, output)
+    boundary_calls::ask(core, listed, areas, watch, misses, memory, turn, output)
 }
 
 // What the front panel shows. The list does not matter to it.

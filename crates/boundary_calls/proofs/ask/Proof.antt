@@ -1,14 +1,16 @@
 -- `boundary_calls::ask` meets its contract.
-use Rattle.laws.specs.Usual.{_≡_, sym, ap, _∙_, false, _&&_, length, eqb, leb, needs}
-use borrow.Author.Tests.{not-true, not-false, leb-true}
-use Rattle.boundary_answers.specs.Numbers.{refusedAnswer, askedAnswer}
-use Rattle.boundary_core.specs.Crossing.{coreOf}
+use Rattle.laws.specs.Usual.{_≡_, sym, ap, _∙_, false, _&&_}
+use borrow.Author.Tests.{not-true, not-false}
+use Rattle.boundary_answers.specs.Numbers.{refusedAnswer}
+use Rattle.boundary_core.specs.Crossing.{coreOf, stationIn}
 use Rattle.boundary_refused.specs.Due.{dueCore, askRefusal, refused-asked}
 use Rattle.boundary_lists.specs.Lists.{membersIn}
-use Rattle.boundary_requesting.specs.Requesting.{after-core, after-members, request-asked}
 use Rattle.boundary_participant.specs.Quick.{held-asked}
+use Rattle.boundary_told.specs.Routes.{told-asked}
+use Rattle.boundary_told.specs.Told.{askedTold}
 use Rattle.laws.specs.Tests.{first, second}
-use Rattle.station.specs.Rules.Asking.{Asking, lentRight}
+use Rattle.station.specs.Rules.Asking.{Asking, lentRight, askOf}
+use borrow.Author.Needs.{needs}
 use Rattle.boundary_calls.proofs.ask.Statement.{statement}
 use Rattle.boundary_calls.proofs.ask.Tie as tie
 
@@ -65,19 +67,20 @@ returns-2 c =
     let refusal = c .before .ask-refusal .ensures ∙ ap askRefusal (c .before .before .before .before .before .before .is-lent-right .ensures) in (
       c .refuse .ensures .0 ∙ sym (ap (λ (t : Asking). coreOf (t .station)) law),
       (
-        c .refuse .ensures .1 ∙ ap refusedAnswer refusal ∙ sym (ap (λ (t : Asking). askedAnswer (t .answer)) law),
+        c .refuse .ensures .1 ∙ ap refusedAnswer refusal ∙ sym (ap (λ (t : Asking). askedTold (t .output) (t .answer)) law),
         (sym (ap (λ (t : Asking). t .turn) law), (sym (ap (λ (t : Asking). t .output) law), sym (ap (λ (t : Asking). t .station .members) law))),
       ),
     )
 
-is-requesting-requires : tie.Need-is-requesting-requires
-is-requesting-requires c κs = search needs
+ask-due-requires : tie.Need-ask-due-requires
+ask-due-requires c κs =
+    let both = not-false _ (c .before .before .before .before .before .before .if2 .left) in
+    let lent = c .before .before .before .before .before .before .before .before .before .before .is-lent-right .result in
+    let due = c .before .before .before .before .before .before .before .is-due .result in
+    (sym (c .before .before .before .before .before .before .before .before .before .before .is-lent-right .ensures) ∙ first lent due both, sym (c .before .before .before .before .before .before .before .is-due .ensures) ∙ second lent due both)
 
-send-requires : tie.Need-send-requires
-send-requires c κs =
-    let a = c .before .before .before .before .before .before .before .before .before .before .before .before .before .args in
-    let lent = sym (c .before .before .before .before .before .before .before .is-lent-right .ensures) ∙ first (c .before .before .before .before .before .before .before .is-lent-right .result) (c .before .before .before .before .is-due .result) (not-false _ (c .before .before .before .if2 .left)) in
-    leb-true 1088 (length (a .output .now)) (second (eqb (length (a .memory .now)) 17408 && eqb (length (a .turn .now)) 17408) (leb 1088 (length (a .output .now))) lent)
+tell-written-requires : tie.Need-tell-written-requires
+tell-written-requires c κs = search needs
 
 same-length-5 : tie.Need-same-length-5
 same-length-5 c = search needs
@@ -87,34 +90,11 @@ same-length-6 c = search needs
 
 returns-3 : tie.Need-returns-3
 returns-3 c =
-    let a = c .before .before .before .before .before .before .before .before .before .before .before .before .before .before .before .before .args in
-    let members = membersIn (a .listed .now) (a .areas .now) (a .watch .now) (a .misses .now) in
-    let both = not-false _ (c .before .before .before .before .before .before .if2 .left) in
-    let lent = sym (c .before .before .before .before .before .before .before .before .before .before .is-lent-right .ensures) ∙ first (c .before .before .before .before .before .before .before .before .before .before .is-lent-right .result) (c .before .before .before .before .before .before .before .is-due .result) both in
-    let due = sym (c .before .before .before .before .before .before .before .is-due .ensures) ∙ second (c .before .before .before .before .before .before .before .before .before .before .is-lent-right .result) (c .before .before .before .before .before .before .before .is-due .result) both in
-    let law = request-asked (a .core) members (a .memory .now) (a .turn .now) (a .output .now) lent due (sym (c .before .before .before .before .before .is-requesting .ensures) ∙ c .before .before .before .before .if3 .taken) in
-    let done = c .before .before .send .ensures in (
-      done .0 ∙ after-core (a .core) members ∙ sym (ap (λ (t : Asking). coreOf (t .station)) law),
-      (
-        done .1 .0 ∙ sym (ap (λ (t : Asking). askedAnswer (t .answer)) law),
-        (
-          sym (ap (λ (t : Asking). t .turn) law),
-          (done .1 .1 ∙ sym (ap (λ (t : Asking). t .output) law), after-members (a .core) members ∙ sym (ap (λ (t : Asking). t .station .members) law)),
-        ),
-      ),
-    )
-
-ask-requires-2 : tie.Need-ask-requires-2
-ask-requires-2 c κs = search needs
-
-same-length-7 : tie.Need-same-length-7
-same-length-7 c = search needs
-
-same-length-8 : tie.Need-same-length-8
-same-length-8 c = search needs
-
-returns-4 : tie.Need-returns-4
-returns-4 c = search needs
+    let a = c .before .before .before .before .before .before .before .before .before .before .before .before .before .before .before .before .before .before .before .before .before .before .before .before .before .args in
+    let done = c .before .before .before .before .before .before .before .before .ask-due .ensures in
+    let station = stationIn (a .core) (a .listed .now) (a .areas .now) (a .watch .now) (a .misses .now) in
+    let told = told-asked (askOf station (a .memory .now) (a .turn .now) (a .output .now)) (done .1 .1 .1 .0) (done .1 .0) in
+    (done .0, (c .tell-written .ensures ∙ told, done .1 .1))
 
 pub ask-spec : {M : Type 1} → statement M
 ask-spec =
@@ -132,12 +112,8 @@ ask-spec =
     same-length-3
     same-length-4
     returns-2
-    is-requesting-requires
-    send-requires
+    ask-due-requires
+    tell-written-requires
     same-length-5
     same-length-6
-    returns-3
-    ask-requires-2
-    same-length-7
-    same-length-8
-    returns-4)
+    returns-3)

@@ -1,9 +1,11 @@
 -- `boundary_calls::hear` meets its contract.
-use Rattle.laws.specs.Usual.{sym, ap, _∙_, needs}
+use Rattle.laws.specs.Usual.{sym, ap, _∙_}
 use Rattle.boundary_answers.specs.Numbers.{refusedAnswer, heardAnswer}
 use Rattle.boundary_core.specs.Crossing.{coreOf, stationIn}
 use Rattle.boundary_refused.specs.Unheard.{header-refused}
-use Rattle.station.specs.Rules.Hearing.{Hearing}
+use Rattle.boundary_told.specs.Routes.{told-unread, header-unread}
+use Rattle.station.specs.Rules.Hearing.{Hearing, hearOf}
+use borrow.Author.Needs.{needs}
 use Rattle.boundary_calls.proofs.hear.Statement.{statement}
 use Rattle.boundary_calls.proofs.hear.Tie as tie
 
@@ -39,10 +41,11 @@ returns-2 c =
     let a = c .before .before .before .before .before .before .before .before .before .args in
     let read = sym (c .before .before .before .before .before .read-header .ensures) ∙ c .before .before .before .refusal .given .1 in
     let station = stationIn (a .core) (a .listed .now) (a .areas .now) (a .watch .now) (a .misses .now) in
-    let law = header-refused station (a .octets .now) (a .memory .now) (a .assembly .now) _ read in (
+    let law = header-refused station (a .octets .now) (a .memory .now) (a .assembly .now) _ read in
+    let answer = c .refuse .ensures .1 ∙ ap refusedAnswer (c .before .heard-refusal .ensures) ∙ sym (ap (λ (t : Hearing). heardAnswer (t .answer)) law) in (
       c .refuse .ensures .0 ∙ sym (ap (λ (t : Hearing). coreOf (t .station)) law),
       (
-        c .refuse .ensures .1 ∙ ap refusedAnswer (c .before .heard-refusal .ensures) ∙ sym (ap (λ (t : Hearing). heardAnswer (t .answer)) law),
+        told-unread (a .octets .now) _ (hearOf station (a .octets .now) (a .memory .now) (a .assembly .now) .answer) (header-unread (a .octets .now) _ read) answer,
         (sym (ap (λ (t : Hearing). t .memory) law), (sym (ap (λ (t : Hearing). t .assembly) law), sym (ap (λ (t : Hearing). t .station .members) law))),
       ),
     )

@@ -1,14 +1,14 @@
 -- `boundary_calls::hear_frame` meets its contract.
-use Rattle.laws.specs.Usual.{refl, sym, ap₂, _∙_, Bool, _<_, arith, needs}
+use Rattle.laws.specs.Usual.{refl, sym, ap, _∙_}
+use Rattle.boundary_answers.specs.declared.Answer.{Answer}
 use Rattle.boundary_core.specs.Crossing.{stationOf}
-use Rattle.boundary_entering.specs.Entering.{not-for-participant}
-use Rattle.boundary_lists.specs.Laws.{listed-in}
 use Rattle.boundary_lists.specs.Lists.{membersIn}
-use Rattle.boundary_refused.specs.Leaves.{heard-leaves}
-use Rattle.boundary_refused.specs.Strange.{isStrange, strange-heard}
+use Rattle.boundary_told.specs.Routes.{told-read}
+use Rattle.boundary_told.specs.Told.{routeOf, withFrame}
+use Rattle.station.specs.Rules.Hearing.{hearOf}
+use borrow.Author.Needs.{needs}
 use Rattle.boundary_calls.proofs.hear_frame.Statement.{statement}
 use Rattle.boundary_calls.proofs.hear_frame.Tie as tie
-use Rattle.boundary_in_place.proofs.hear.Reads as hear-reads′
 
 is-listed-requires : tie.Need-is-listed-requires
 is-listed-requires c κs = search needs
@@ -34,31 +34,14 @@ same-length-2 c = search needs
 returns : tie.Need-returns
 returns c = search needs
 
-is-strange-requires : tie.Need-is-strange-requires
-is-strange-requires c κs = search needs
+hear-other-requires : tie.Need-hear-other-requires
+hear-other-requires c κs =
+    let pre = c .before .before .before .before .before .before .before .before .before .before .before .before .before .before .before .pre in
+    let told = rw (c .before .before .before .before .before .before .before .before .before .before .is-listed .ensures, c .before .before .before .before .before .before .before .before .is-listed2 .ensures) at (c .before .before .before .before .before .before .before .is-accepted .ensures) in
+    (sym told ∙ c .before .before .before .before .before .before .if1 .left, (pre .0, (pre .1 .0, pre .1 .1)))
 
-refuse-requires : tie.Need-refuse-requires
-refuse-requires c κs = search needs
-
-returns-2 : tie.Need-returns-2
-returns-2 c =
-    let a = c .before .before .before .before .before .before .before .before .before .before .before .before .args in
-    let pre = c .before .before .before .before .before .before .before .before .before .before .before .before .pre in
-    let frame = a .frame in
-    let members = membersIn (a .listed .now) (a .areas .now) (a .watch .now) (a .misses .now) in
-    let source : frame .source < 256 = omega (arith, c .before .before .before .before .before .before .before .before .before .before .before .before .good .1 .1 .1 .1 .1 .0) in
-    let destination : frame .destination < 256 = omega (arith, c .before .before .before .before .before .before .before .before .before .before .before .before .good .1 .1 .1 .1 .1 .0) in
-    let sender = c .before .before .before .before .before .before .before .is-listed .ensures ∙ sym (listed-in (a .listed .now) (a .areas .now) (a .watch .now) (a .misses .now) (frame .source) source) in
-    let taker = c .before .before .before .before .before .is-listed2 .ensures ∙ sym (listed-in (a .listed .now) (a .areas .now) (a .watch .now) (a .misses .now) (frame .destination) destination) in
-    let told = c .before .before .is-strange .ensures ∙ ap₂ (λ (s d : Bool). isStrange (a .core) s d frame) sender taker in
-    let law = strange-heard (a .core) members (a .octets .now) (a .memory .now) (a .assembly .now) frame (sym told ∙ c .before .if2 .taken) (pre .1 .0) (pre .1 .1) in
-    heard-leaves (stationOf (a .core) members) _ (a .memory .now) (a .assembly .now) _ law _ _ members (c .refuse .ensures .0) (c .refuse .ensures .1) refl
-
-hear-requires-2 : tie.Need-hear-requires-2
-hear-requires-2 c κs =
-    let a = c .before .before .before .before .before .before .before .before .before .before .before .before .before .before .before .before .before .args in
-    let pre = c .before .before .before .before .before .before .before .before .before .before .before .before .before .before .before .before .before .pre in
-    (pre .0, (not-for-participant (a .core) _ _ (a .frame) (pre .0) (sym (c .before .before .before .before .before .before .before .before .before .is-accepted .ensures) ∙ c .before .before .before .before .before .before .before .before .if1 .left) (sym (c .before .before .before .before .before .before .before .is-strange .ensures) ∙ c .before .before .before .before .before .before .if2 .left), (pre .1 .0, pre .1 .1)))
+tell-read-requires : tie.Need-tell-read-requires
+tell-read-requires c κs = search needs
 
 same-length-3 : tie.Need-same-length-3
 same-length-3 c = search needs
@@ -66,8 +49,15 @@ same-length-3 c = search needs
 same-length-4 : tie.Need-same-length-4
 same-length-4 c = search needs
 
-returns-3 : tie.Need-returns-3
-returns-3 c = search needs
+returns-2 : tie.Need-returns-2
+returns-2 c =
+    let a = c .before .before .before .before .before .before .before .before .before .before .before .before .before .before .before .before .before .before .before .before .before .before .before .args in
+    let pre = c .before .before .before .before .before .before .before .before .before .before .before .before .before .before .before .before .before .before .before .before .before .before .before .pre in
+    let done = c .before .before .before .before .before .before .before .hear-other .ensures in
+    let members = membersIn (a .listed .now) (a .areas .now) (a .watch .now) (a .misses .now) in
+    let answer = hearOf (stationOf (a .core) members) (a .octets .now) (a .memory .now) (a .assembly .now) .answer in
+    let told = ap (λ (t : Answer). withFrame t (routeOf (a .frame))) (done .1 .0) ∙ told-read (a .octets .now) (a .frame) answer (pre .1 .1) in
+    (done .0, (c .tell-read .ensures ∙ told, done .1 .1))
 
 pub hear-frame-spec : {M : Type 1} → statement M
 hear-frame-spec =
@@ -80,10 +70,8 @@ hear-frame-spec =
     same-length
     same-length-2
     returns
-    is-strange-requires
-    refuse-requires
-    returns-2
-    hear-requires-2
+    hear-other-requires
+    tell-read-requires
     same-length-3
     same-length-4
-    returns-3)
+    returns-2)

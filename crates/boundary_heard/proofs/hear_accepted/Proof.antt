@@ -12,6 +12,9 @@ outcome-of-requires c κs = search needs
 cyclic-requires : tie.Need-cyclic-requires
 cyclic-requires c κs = search needs
 
+tell-read-requires : tie.Need-tell-read-requires
+tell-read-requires c κs = search needs
+
 view-heard-requires : tie.Need-view-heard-requires
 view-heard-requires c κs = search needs
 
@@ -26,8 +29,8 @@ same-length-2 c = search needs
 
 returns : tie.Need-returns
 returns c =
-    let done = c .before .before .before .before .before .before .before .before .before .gather-frame .ensures in
-    (rw (c .restart .ensures, c .before .view-heard .ensures, done .0), (rw (c .before .before .cyclic .ensures, c .before .before .before .outcome-of .ensures, done .1 .0), (done .1 .1 .0, done .1 .1 .1)))
+    let done = c .before .before .before .before .before .before .before .before .before .before .gather-frame .ensures in
+    (rw (c .restart .ensures, c .before .view-heard .ensures, done .0), (rw (c .before .before .tell-read .ensures, c .before .before .before .cyclic .ensures, c .before .before .before .before .outcome-of .ensures, done .1 .0), (done .1 .1 .0, done .1 .1 .1)))
 
 pub hear-accepted-spec : {M : Type 1} → statement M
 hear-accepted-spec =
@@ -36,6 +39,7 @@ hear-accepted-spec =
     gather-frame-requires
     outcome-of-requires
     cyclic-requires
+    tell-read-requires
     view-heard-requires
     restart-requires
     same-length

@@ -1,9 +1,10 @@
 -- `boundary_in_place::ask` meets its contract.
 use Rattle.boundary_participant.specs.Quick.{sentCore}
 use Rattle.boundary_answers.specs.Numbers.{frameAnswer, askedAnswer}
-use Rattle.boundary_core.specs.Crossing.{coreOf}
+use Rattle.boundary_core.specs.Crossing.{coreOf, stationOf}
+use Rattle.boundary_told.specs.Routes.{told-asked}
 use Rattle.frame_writing.specs.Writing.{wholeLength, outputOf}
-use Rattle.station.specs.Rules.Asking.{nextFields, turnFor, Asking}
+use Rattle.station.specs.Rules.Asking.{nextFields, turnFor, Asking, askOf}
 use Rattle.block.specs.Blocks.{startOf}
 use Rattle.laws.specs.Usual.{sym, ap, _∙_, _&&_, ℕ, _+_, length, drop, eqb, leb, needs}
 use borrow.Author.Tests.{eqb-true, leb-true}
@@ -27,11 +28,14 @@ send-next-requires c κs =
     let both = first (memory && turn) output (pre .1) in
     (held-placed (a .core) (pre .0), (eqb-true (length (a .memory .now)) 17408 (first memory turn both), (eqb-true (length (a .turn .now)) 17408 (second memory turn both), leb-true 1088 (length (a .output .now)) (second (memory && turn) output (pre .1)))))
 
-sent-block-requires : tie.Need-sent-block-requires
-sent-block-requires c κs = search needs
-
 frame-answer-requires : tie.Need-frame-answer-requires
 frame-answer-requires c κs = search needs
+
+tell-written-requires : tie.Need-tell-written-requires
+tell-written-requires c κs = search needs
+
+sent-block-requires : tie.Need-sent-block-requires
+sent-block-requires c κs = c .before .before .before .before .before .before .before .before .before .before .before .before .before .before .before .pre .0
 
 same-length : tie.Need-same-length
 same-length c = search needs
@@ -41,25 +45,22 @@ same-length-2 c = search needs
 
 returns : tie.Need-returns
 returns c =
-    let a = c .before .before .before .before .before .before .before .before .before .before .before .before .before .before .args in
-    let pre = c .before .before .before .before .before .before .before .before .before .before .before .before .before .before .pre in
+    let a = c .before .before .before .before .before .before .before .before .before .before .before .before .before .before .before .before .args in
+    let pre = c .before .before .before .before .before .before .before .before .before .before .before .before .before .before .before .before .pre in
     let own = a .core .own in
     let block = a .core .block in
     let members = membersIn (a .listed .now) (a .areas .now) (a .watch .now) (a .misses .now) in
     let law = held-asked (a .core) members (a .memory .now) (a .turn .now) (a .output .now) (pre .0) (pre .1) in
-    let next = c .before .before .before .before .before .before .before .before .before .next-after .ensures ∙ next-in (a .listed .now) (a .areas .now) (a .watch .now) (a .misses .now) (own .number) (own .number) in
-    let done = c .before .before .before .before .before .before .send-next .ensures in
-    let from = drop (startOf (block + 1)) (turnFor (own .areas) block (a .memory .now) (a .turn .now)) in (
-      c .before .sent-block .ensures ∙ ap (sentCore (a .core)) next ∙ sym (ap (λ (t : Asking). coreOf (t .station)) law),
-      (
-        c .frame-answer .ensures
-            ∙ ap frameAnswer (done .0 ∙ ap (λ (n : ℕ). wholeLength (nextFields own block n)) next)
-            ∙ sym (ap (λ (t : Asking). askedAnswer (t .answer)) law),
-        (
-          done .1 .0 ∙ sym (ap (λ (t : Asking). t .turn) law),
-          done .1 .1 ∙ ap (λ (n : ℕ). outputOf (nextFields own block n) from (a .output .now)) next ∙ sym (ap (λ (t : Asking). t .output) law),
-        ),
-      ),
+    let next = c .before .before .before .before .before .before .before .before .before .before .before .next-after .ensures ∙ next-in (a .listed .now) (a .areas .now) (a .watch .now) (a .misses .now) (own .number) (own .number) in
+    let done = c .before .before .before .before .before .before .before .before .send-next .ensures in
+    let from = drop (startOf (block + 1)) (turnFor (own .areas) block (a .memory .now) (a .turn .now)) in
+    let asking = askOf (stationOf (a .core) members) (a .memory .now) (a .turn .now) (a .output .now) in
+    let written = done .1 .1 ∙ ap (λ (n : ℕ). outputOf (nextFields own block n) from (a .output .now)) next ∙ sym (ap (λ (t : Asking). t .output) law) in
+    let octets = c .before .before .before .frame-answer .ensures
+    ∙ ap frameAnswer (done .0 ∙ ap (λ (n : ℕ). wholeLength (nextFields own block n)) next)
+    ∙ sym (ap (λ (t : Asking). askedAnswer (t .answer)) law) in (
+      c .sent-block .ensures ∙ ap (sentCore (a .core)) next ∙ sym (ap (λ (t : Asking). coreOf (t .station)) law),
+      (c .before .tell-written .ensures ∙ told-asked asking written octets, (done .1 .0 ∙ sym (ap (λ (t : Asking). t .turn) law), written)),
     )
 
 pub ask-spec : {M : Type 1} → statement M
@@ -68,8 +69,9 @@ ask-spec =
     (tie.spec
     next-after-requires
     send-next-requires
-    sent-block-requires
     frame-answer-requires
+    tell-written-requires
+    sent-block-requires
     same-length
     same-length-2
     returns)

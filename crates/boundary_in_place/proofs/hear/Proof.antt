@@ -8,10 +8,12 @@ use Rattle.members.specs.Members.{entryOf, isListed, cleared}
 use Rattle.station.specs.Types.{Areas, Entry}
 use Rattle.frame_reading.specs.Reading.{dataOf}
 use Rattle.station.specs.Rules.Data.{gatheredFrom}
-use Rattle.station.specs.Rules.Hearing.{Hearing}
+use Rattle.station.specs.Rules.Hearing.{Hearing, hearOf}
 use Rattle.station.specs.Rules.Token.{viewHeard}
-use Rattle.boundary_core.specs.Crossing.{coreOf}
+use Rattle.boundary_core.specs.Crossing.{coreOf, stationOf}
 use Rattle.boundary_answers.specs.Numbers.{cyclicAnswer, heardAnswer}
+use Rattle.boundary_told.specs.Routes.{told-read}
+use Rattle.boundary_told.specs.Told.{routeOf, withFrame}
 use Rattle.boundary_participant.specs.Quick.{restartedCore, accepted-parts, whole-body, accepted-heard}
 use Rattle.boundary_in_place.proofs.hear.Statement.{statement}
 use Rattle.boundary_in_place.proofs.hear.Tie as tie
@@ -62,8 +64,9 @@ returns c =
           ∙ sym (ap (λ (h : Hearing). coreOf (h .station)) law),
       (
         done .1 .0
-            ∙ ap (λ (p : Areas). cyclicAnswer (outcomeBy (core .own .number) (core .view) frame (gatheredFrom (core .gathering) p frame (dataOf (a .octets .now) frame) (a .assembly .now) (a .memory .now) .outcome))) parts
-            ∙ sym (ap (λ (h : Hearing). heardAnswer (h .answer)) law),
+            ∙ ap (λ (p : Areas). withFrame (cyclicAnswer (outcomeBy (core .own .number) (core .view) frame (gatheredFrom (core .gathering) p frame (dataOf (a .octets .now) frame) (a .assembly .now) (a .memory .now) .outcome))) (routeOf frame)) parts
+            ∙ sym (ap (λ (h : Hearing). withFrame (heardAnswer (h .answer)) (routeOf frame)) law)
+            ∙ told-read (a .octets .now) frame (hearOf (stationOf core members) (a .octets .now) (a .memory .now) (a .assembly .now) .answer) (pre .1 .1 .0),
         (
           done .1 .1 .0 ∙ ap (λ (p : Areas). gatheredFrom (core .gathering) p frame (dataOf (a .octets .now) frame) (a .assembly .now) (a .memory .now) .memory) parts ∙ sym (ap (λ (h : Hearing). h .memory) law),
           (
