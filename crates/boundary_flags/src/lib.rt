@@ -65,3 +65,15 @@ pub fn next_after(ours: u8, listed: &[bool; 256], number: u8) -> u8
     }
     first_listed(listed, 0, ours as usize) as u8
 }
+
+// Next after our own number, which asking for each block looks for: a function with one caller is put into it by the compiler, and the other
+// has several.
+pub fn next_after_ours(ours: u8, listed: &[bool; 256]) -> u8
+    ensures { λ r. ⌜ r ≡ nextIn ours (now (listed .entry)) ours ⌝ }
+{
+    let larger = first_listed(listed, ours as usize + 1, 256);
+    if larger < 256 {
+        return larger as u8;
+    }
+    first_listed(listed, 0, ours as usize) as u8
+}

@@ -64,7 +64,7 @@ pub fn ask(
     ensures { λ _. ⌜ now (output .exit) ≡ asks.askOf (stationIn core (now (listed .entry)) (now (areas .entry)) (now (watch .entry)) (now (misses .entry))) (now (memory .entry)) (now (turn .entry)) (now (output .entry)) .output ⌝ }
 {
     let own = core.own;
-    let next = boundary_flags::next_after(own.number, listed, own.number);
+    let next = boundary_flags::next_after_ours(own.number, listed);
     let octets = asking_sending::send_next(own, core.block, next, memory, turn, output);
     let answer = boundary_told::tell_written(frame_answer(octets), output);
     Outcome {

@@ -15,8 +15,8 @@ use Rattle.boundary_participant.specs.Quick.{held-placed, held-asked}
 use Rattle.boundary_in_place.proofs.ask.Statement.{statement}
 use Rattle.boundary_in_place.proofs.ask.Tie as tie
 
-next-after-requires : tie.Need-next-after-requires
-next-after-requires c κs = search needs
+next-after-ours-requires : tie.Need-next-after-ours-requires
+next-after-ours-requires c κs = search needs
 
 send-next-requires : tie.Need-send-next-requires
 send-next-requires c κs =
@@ -51,7 +51,7 @@ returns c =
     let block = a .core .block in
     let members = membersIn (a .listed .now) (a .areas .now) (a .watch .now) (a .misses .now) in
     let law = held-asked (a .core) members (a .memory .now) (a .turn .now) (a .output .now) (pre .0) (pre .1) in
-    let next = c .before .before .before .before .before .before .before .before .before .before .before .next-after .ensures ∙ next-in (a .listed .now) (a .areas .now) (a .watch .now) (a .misses .now) (own .number) (own .number) in
+    let next = c .before .before .before .before .before .before .before .before .before .before .before .next-after-ours .ensures ∙ next-in (a .listed .now) (a .areas .now) (a .watch .now) (a .misses .now) (own .number) (own .number) in
     let done = c .before .before .before .before .before .before .before .before .send-next .ensures in
     let from = drop (startOf (block + 1)) (turnFor (own .areas) block (a .memory .now) (a .turn .now)) in
     let asking = askOf (stationOf (a .core) members) (a .memory .now) (a .turn .now) (a .output .now) in
@@ -67,7 +67,7 @@ pub ask-spec : {M : Type 1} → statement M
 ask-spec =
     tie.close
     (tie.spec
-    next-after-requires
+    next-after-ours-requires
     send-next-requires
     frame-answer-requires
     tell-written-requires
