@@ -69,7 +69,7 @@ areaApplies station tick = false
 areaApplies station (hear octets memory assembly) = carriesAreas (frameIn octets .code) && not (inRange (frameIn octets .areas))
 areaApplies station (ask memory turn output) = false
 
--- 14 (E5): "TBN not as the areas give". "8 [looks] at cyclic frames only", of which 14 and 15 are parts.
+-- 14 (E5): "TBN not as the areas give". As 8 did, 14 and 15 look "at cyclic frames only".
 abbrev pub totalApplies : Station → Call → Bool
 totalApplies station = heard (λ octets frame. isCyclic (frame .code) && not (eqb (frame .blocks) (blocksOf (frame .areas))))
 
