@@ -60,7 +60,7 @@ extern "C" {
 #define FLNET_FRAME 3   /* a frame written: see octets */
 #define FLNET_REFUSED 4 /* refused: see refusal */
 
-/* Why a call is refused. Of several, the first in the order 11, 10, 1 to 9. */
+/* Why a call is refused. Of several, the first in the order 11, 10, 1 to 7, 14, 15, 8, 9. No refusal has the number 12 or 13. */
 #define FLNET_CUT 1      /* fewer than 64 or more than 1120 octets given */
 #define FLNET_MARK 2     /* not a frame of FL-net */
 #define FLNET_LENGTH 3   /* the frame's length field is not the number of octets given */
@@ -68,10 +68,12 @@ extern "C" {
 #define FLNET_ADDRESS 5  /* a number that is no station's, or a watch time of 0 at start */
 #define FLNET_TAKEN 6    /* a frame with our own number as its source; turns the station off unless it participates */
 #define FLNET_AREA 7     /* an area leaves its range */
-#define FLNET_BLOCK 8    /* block numbers or lengths that the areas do not give */
+#define FLNET_BLOCK 8    /* a block's length that the areas do not give, or not 64 to 96 octets before the data */
 #define FLNET_STRANGER 9 /* a cyclic frame from, or a token to, a station that is not listed */
 #define FLNET_NOT_DUE 10 /* no frame is due; a start when not off; a stop when off */
 #define FLNET_BUFFER 11  /* a lent buffer has the wrong number of octets */
+#define FLNET_TOTAL 14   /* a number of blocks, TBN, that the areas do not give */
+#define FLNET_NUMBER 15  /* a block's number, CBN, that is not 1 to TBN */
 
 /* What became of the token. */
 #define FLNET_TOKEN_NONE 0

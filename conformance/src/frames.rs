@@ -78,9 +78,10 @@ impl Frame {
         };
     }
 
-    /// Sets one field to some other value, mostly a wrong one next to the right ones.
+    /// Sets one field to some other value, mostly a wrong one next to the right ones. The block fields
+    /// come up more often, since only cyclic frames are refused by them.
     pub fn spoil(&mut self, random: &mut Random, ours: u8) {
-        match random.below(14) {
+        match random.below(18) {
             0 => self.total = random.pick(&[0, 1, 4, 11, 62, 63, LONGEST + 1, LONGEST + 2, 2000]),
             1 => self.mark[random.below(4)] ^= 1 << random.below(8),
             2 => self.length = Some(random.pick(&wrong_lengths(self.total as u32))),
@@ -91,7 +92,7 @@ impl Frame {
             7 => self.source = random.octet(),
             8 => self.destination = random.octet(),
             9 | 10 => self.spoil_areas(random),
-            11 => {
+            11..=13 => {
                 self.block = random.pick(&[
                     0,
                     1,
@@ -100,7 +101,7 @@ impl Frame {
                     255,
                 ])
             }
-            12 => {
+            14 | 15 => {
                 self.blocks = random.pick(&[
                     0,
                     1,

@@ -146,9 +146,11 @@ fn refusals_in_their_order() {
     let mut case = participant(settings(1, Areas::default(), 10), &[(2, words(513))]);
     let right = Frame::cyclic(Code::Token, 2, 1, words(513), 1);
     type Spoil = fn(&mut Frame);
-    let spoils: [(u8, Spoil); 8] = [
+    let spoils: [(u8, Spoil); 10] = [
         (9, |frame| frame.source = 77),
-        (8, |frame| frame.block = 3),
+        (8, |frame| frame.size = 1023),
+        (15, |frame| frame.block = 3),
+        (14, |frame| frame.blocks = 1),
         (7, |frame| frame.areas.one.address = 1),
         (6, |frame| frame.source = 1),
         (5, |frame| frame.destination = 255),
@@ -164,6 +166,55 @@ fn refusals_in_their_order() {
     frame.total = 1121;
     assert_eq!(refused(case.hear(frame)), 1);
     assert_eq!(case.hear(right).word, WORD_CYCLIC);
+}
+
+/// Which block field is off: TBN, CBN, or the length and the header part.
+#[test]
+fn block_fields() {
+    let right = Frame::cyclic(Code::Token, 2, 1, words(513), 2);
+    // CBN, TBN, BSIZE, octets in all, and the number.
+    let cases = [
+        // TBN, alone and with the others.
+        (2, 3, 2, 66, 14),
+        (2, 1, 2, 66, 14),
+        (0, 0, 3, 99, 14),
+        // CBN, alone and with the length and the header part.
+        (0, 2, 2, 66, 15),
+        (3, 2, 2, 66, 15),
+        (255, 2, 3, 100, 15),
+        // The length, and the header part.
+        (2, 2, 1, 66, 8),
+        (1, 2, 2, 66, 8),
+        (2, 2, 2, 65, 8),
+        (2, 2, 2, 99, 8),
+    ];
+    for (block, blocks, size, total, number) in cases {
+        let frame = Frame {
+            block,
+            blocks,
+            size,
+            total,
+            ..right.clone()
+        };
+        let mut case = participant(settings(1, Areas::default(), 10), &[(2, words(513))]);
+        assert_eq!(refused(case.hear(frame.clone())), number);
+        let unlisted = Frame {
+            source: 77,
+            ..frame.clone()
+        };
+        assert_eq!(refused(case.hear(unlisted)), number);
+        // They look at cyclic frames only.
+        for code in [Code::Request, Code::Trigger] {
+            let other = Frame {
+                code: code as u16,
+                total: 64,
+                ..frame.clone()
+            };
+            assert_eq!(case.hear(other).word, WORD_DONE);
+        }
+        // An off station looks too.
+        assert_eq!(refused(Case::new().hear(frame)), number);
+    }
 }
 
 #[test]

@@ -44,7 +44,7 @@ const ACTIONS: [Action; 10] = [
 /// it.
 const WEIGHTS: [[usize; 10]; 5] = [
     [300, 1500, 4000, 1200, 600, 1200, 300, 50, 200, 0],
-    [200, 2500, 4000, 2500, 600, 400, 250, 50, 200, 0],
+    [200, 2500, 4000, 2500, 900, 400, 250, 50, 200, 0],
     [100, 4000, 3500, 1500, 1000, 300, 200, 50, 150, 0],
     [100, 5000, 1000, 2000, 700, 300, 80, 50, 100, 0],
     [200, 5000, 2500, 2500, 1500, 100, 20, 300, 400, 1],
@@ -86,10 +86,10 @@ impl Choices {
     }
 
     pub fn action(&mut self, state: &Station) -> Action {
-        let asks = if state.core.phase == PARTICIPATING {
-            self.steady / 2
-        } else {
-            45
+        let asks = match state.core.phase {
+            PARTICIPATING => self.steady / 2,
+            LISTENING => 30,
+            _ => 45,
         };
         if is_due(&state.core) && self.random.chance(asks) {
             return Action::Ask;

@@ -13,7 +13,7 @@ const CALLS: [&str; 5] = ["start", "stop", "tick", "hear", "ask"];
 /// data outcomes for each of the five token outcomes.
 const KINDS: usize = CYCLIC + 15;
 const FRAME: usize = 2;
-const CYCLIC: usize = FRAME + 12;
+const CYCLIC: usize = FRAME + 16;
 
 /// The fewest times that each possible answer must have come up, and each figure and step of note:
 /// some take 65,535 ticks.
@@ -84,11 +84,13 @@ fn is_possible(call: &str, phase: u8, kind: usize) -> bool {
         // A participant can get each token outcome with each data outcome. Before that there is no
         // token, and data are dropped.
         ("hear", CYCLIC..) => phase == PARTICIPATING || !off && kind == CYCLIC + 2,
-        // 6 is not looked at off, 9 only as a participant; 10 is not for hearing.
+        // 6 is not looked at off, 9 only as a participant; 10 is not for hearing, and 12 and 13 are
+        // nobody's.
         ("hear", _) => match refusal {
             6 => !off,
             9 => phase == PARTICIPATING,
-            _ => refusal != 10,
+            10 | 12 | 13 => false,
+            _ => true,
         },
         _ => false,
     }

@@ -1,4 +1,4 @@
-//! Frames: reading with refusals 1 to 5, 7 and 8, and writing.
+//! Frames: reading with refusals 1 to 5, 7, 14, 15 and 8, and writing.
 
 use super::{Areas, Part, Refusal, Settings};
 
@@ -127,8 +127,8 @@ impl Header {
         matches!(self.code, Code::Token | Code::Cyclic)
     }
 
-    /// Refusals 7 and 8, between which and `read` the station asks for 6. Gives the data, of a
-    /// request and a trigger none.
+    /// Refusals 7, 14, 15 and 8, between which and `read` the station asks for 6. Gives the data,
+    /// of a request and a trigger none.
     pub fn data<'a>(&self, octets: &'a [u8]) -> Result<&'a [u8], Refusal> {
         if self.code != Code::Trigger && !self.areas.fit() {
             return Err(Refusal::Area);
@@ -136,9 +136,14 @@ impl Header {
         if !self.is_cyclic() {
             return Ok(&[]);
         }
-        let counted = self.blocks == self.areas.blocks() && (1..=self.blocks).contains(&self.block);
+        if self.blocks != self.areas.blocks() {
+            return Err(Refusal::Total);
+        }
+        if !(1..=self.blocks).contains(&self.block) {
+            return Err(Refusal::Number);
+        }
         let size = usize::from(self.size);
-        if !counted || size != self.areas.block(self.block).len() {
+        if size != self.areas.block(self.block).len() {
             return Err(Refusal::Block);
         }
         match octets.len().checked_sub(size) {

@@ -20,7 +20,7 @@ pub use panel::Figure;
 pub use participant::Token;
 pub use station::{Model, Settings, OUTPUT};
 
-/// Why a call is refused, with the paper's numbers.
+/// Why a call is refused, with the papers' numbers.
 #[derive(Clone, Copy, Debug, PartialEq, Eq)]
 pub enum Refusal {
     Cut = 1,
@@ -34,6 +34,8 @@ pub enum Refusal {
     Stranger,
     NotDue,
     Buffer,
+    Total = 14,
+    Number = 15,
 }
 
 /// What a call that is not refused answers.

@@ -92,7 +92,7 @@ fn refusable(numbers: &[u8], own: u8, random: &mut Random) -> Frame {
     let outside = (1..=254).find(|number| !numbers.contains(number));
     let mut frame = Frame::token(random.pick(numbers), random.pick(numbers));
     let change = 1 + random.below(255) as u8;
-    match random.below(9) {
+    match random.below(11) {
         0 => frame.total = random.below(HEADER),
         1 => frame.mark[random.below(4)] ^= change,
         2 => frame.length = Some(HEADER as u32 ^ u32::from(change) << (8 * random.below(4))),
@@ -100,7 +100,9 @@ fn refusable(numbers: &[u8], own: u8, random: &mut Random) -> Frame {
         4 => frame.source = random.pick(&[0, 255]),
         5 => frame.source = own,
         6 => frame.areas.one = Part::new(511, 2),
-        7 => frame.block = random.pick(&[0, 2]),
+        7 => frame.blocks = random.pick(&[0, 2]),
+        8 => frame.block = random.pick(&[0, 2]),
+        9 => frame.size = u16::from(change),
         _ => frame.source = outside.unwrap_or(own),
     }
     frame

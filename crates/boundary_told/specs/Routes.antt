@@ -12,7 +12,7 @@ use Rattle.frame.specs.declared.Code.the-variants.{Token, Cyclic, Request, Trig
 use Rattle.frame.specs.declared.Coded.{Coded}
 use Rattle.frame.specs.declared.Coded.the-variants.{Known, Unknown}
 use Rattle.frame.specs.declared.Fields.{Fields}
-use Rattle.frame_reading.specs.Reading.{need, andThen, whole, marked, long, coded, codeIn, addressed, ranged, blocked, readHeaderOf, readBodyOf, readOf, fieldsOf, dataOf}
+use Rattle.frame_reading.specs.Reading.{need, andThen, whole, marked, long, coded, codeIn, addressed, ranged, totalled, numbered, measured, readHeaderOf, readBodyOf, readOf, fieldsOf, dataOf}
 use Rattle.frame_reading.specs.declared.Read.the-variants.{Frame, Refused}
 use Rattle.frame.specs.Refusals.{numberOf}
 use Rattle.frame.specs.declared.Refusal.{Refusal}
@@ -110,7 +110,8 @@ header-not octets =
 
 body-not : (given : ℕ) (fields : Fields) → notStranger (readBodyOf given fields) ≡ true
 body-not given fields =
-    need-not (ranged fields) refusals.Area _ refl (need-not (not (isCyclic (fields .code)) || blocked given fields) refusals.Block _ refl refl)
+    let bare = not (isCyclic (fields .code)) in
+    need-not (ranged fields) refusals.Area _ refl (need-not (bare || totalled fields) refusals.Total _ refl (need-not (bare || numbered fields) refusals.Number _ refl (need-not (bare || measured given fields) refusals.Block _ refl refl)))
 
 -- a frame is read in two parts
 in-parts : (octets : List ℕ) → readOf octets ≡ andThen (readHeaderOf octets) (readBodyOf (length octets))

@@ -100,7 +100,7 @@ pub fn carries_areas(code: Code) -> bool
 // What the longest frame that we write takes: a header of 64 octets and a block of 1024. An output has room for it.
 pub const OUTPUT_OCTETS: usize = 1088;
 
-// Each refusal under the paper's word for it, in the order of the numbers.
+// Each refusal under the papers' word for it, in the order of the numbers.
 pub enum Refusal {
     Cut,
     Mark,
@@ -113,6 +113,8 @@ pub enum Refusal {
     Stranger,
     NotDue,
     Buffer,
+    Total,
+    Number,
 }
 
 pub fn number_of(refusal: Refusal) -> u8
@@ -130,5 +132,7 @@ pub fn number_of(refusal: Refusal) -> u8
         Refusal::Stranger => 9,
         Refusal::NotDue => 10,
         Refusal::Buffer => 11,
+        Refusal::Total => 14,
+        Refusal::Number => 15,
     }
 }

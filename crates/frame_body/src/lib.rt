@@ -1,9 +1,9 @@
-// Reading a frame to its end: refusals 7 and 8, the whole frame, and its data.
+// Reading a frame to its end: refusals 7, 14, 15 and 8, the whole frame, and its data.
 use frame::Fields;
 use frame::Refusal;
 use frame_reading::Read;
 ghost use Rattle.laws.specs.Usual.{_≡_, _-_};
-ghost use Rattle.frame_reading.specs.Reading.{ranged, blocked, readBodyOf, readOf, dataSize, dataOf};
+ghost use Rattle.frame_reading.specs.Reading.{ranged, totalled, numbered, measured, readBodyOf, readOf, dataSize, dataOf};
 
 fn is_ranged(fields: Fields) -> bool
     ensures { λ r. ⌜ r ≡ ranged fields ⌝ }
@@ -20,30 +20,47 @@ fn header_part(given: usize, size: usize) -> usize
     if given < size { 0 } else { given - size }
 }
 
-fn is_blocked(given: usize, fields: Fields) -> bool
-    ensures { λ r. ⌜ r ≡ blocked given fields ⌝ }
+fn is_totalled(fields: Fields) -> bool
+    ensures { λ r. ⌜ r ≡ totalled fields ⌝ }
 {
     let areas = fields.areas;
-    let total = fields.blocks as usize == block::blocks(areas);
-    let number = (1 <= fields.block) & (fields.block <= fields.blocks);
-    let size = fields.size as usize == block::block_length(areas, fields.block);
-    let header = header_part(given, fields.size as usize);
-    total & (number & (size & ((64 <= header) & (header <= 96))))
+    fields.blocks as usize == block::blocks(areas)
 }
 
-// Refusals 7 and 8, of a header that was read from so many octets.
+fn is_numbered(fields: Fields) -> bool
+    ensures { λ r. ⌜ r ≡ numbered fields ⌝ }
+{
+    (1 <= fields.block) & (fields.block <= fields.blocks)
+}
+
+fn is_measured(given: usize, fields: Fields) -> bool
+    ensures { λ r. ⌜ r ≡ measured given fields ⌝ }
+{
+    let areas = fields.areas;
+    let size = fields.size as usize == block::block_length(areas, fields.block);
+    let header = header_part(given, fields.size as usize);
+    size & ((64 <= header) & (header <= 96))
+}
+
+// Refusals 7, 14, 15 and 8, of a header that was read from so many octets.
 pub fn read_body(given: usize, fields: Fields) -> Read
     ensures { λ r. ⌜ r ≡ readBodyOf given fields ⌝ }
 {
     let code = fields.code;
+    let blockless = !frame::is_cyclic(code);
     if !is_ranged(fields) {
         return Read::Refused(Refusal::Area);
     }
-    if !frame::is_cyclic(code) | is_blocked(given, fields) {
-        Read::Frame(fields)
-    } else {
-        Read::Refused(Refusal::Block)
+    if !(blockless | is_totalled(fields)) {
+        return Read::Refused(Refusal::Total);
     }
+    if !(blockless | is_numbered(fields)) {
+        return Read::Refused(Refusal::Number);
+    }
+    if !(blockless | is_measured(given, fields)) {
+        return Read::Refused(Refusal::Block);
+    }
+    Read::Frame(fields)
 }
 
 pub fn read_frame(s: &[u8]) -> Read

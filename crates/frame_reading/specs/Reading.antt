@@ -71,14 +71,24 @@ addressed fields = isStation (fields .source) && (not (isToken (fields .code)) |
 abbrev pub ranged : Fields → Bool
 ranged fields = not (carriesAreas (fields .code)) || inRange (fields .areas)
 
--- 8: "TBN not as the areas give; CBN not 1 to TBN; BSIZE not that block's length; header part not 64 to 96"; "8 [looks] at cyclic frames
--- only". The header part is what stands before the last BSIZE of the octets given.
+-- 14 (E5 of paper 02): "TBN not as the areas give". As 8 did, 14 and 15 look "at cyclic frames only".
+abbrev pub totalled : Fields → Bool
+totalled fields = eqb (fields .blocks) (blocksOf (fields .areas))
+
+-- 15 (E5): "CBN not 1 to TBN"
+abbrev pub numbered : Fields → Bool
+numbered fields = leb 1 (fields .block) && leb (fields .block) (fields .blocks)
+
+-- 8: "BSIZE not that block's length; header part not 64 to 96"; E5: "8 stays for the block's length and the header part". The header part
+-- is what stands before the last BSIZE of the octets given.
+abbrev pub measured : ℕ → Fields → Bool
+measured given fields =
+    eqb (fields .size) (lengthOf (fields .areas) (fields .block))
+    && (leb 64 (given - fields .size) && leb (given - fields .size) 96)
+
+-- none of the three
 abbrev pub blocked : ℕ → Fields → Bool
-blocked given fields =
-    eqb (fields .blocks) (blocksOf (fields .areas))
-    && ((leb 1 (fields .block) && leb (fields .block) (fields .blocks))
-    && (eqb (fields .size) (lengthOf (fields .areas) (fields .block))
-    && (leb 64 (given - fields .size) && leb (given - fields .size) 96)))
+blocked given fields = totalled fields && (numbered fields && measured given fields)
 
 -- refusals 1 to 5, in this order
 abbrev pub readHeaderOf : List ℕ → Read
@@ -90,14 +100,16 @@ readHeaderOf s =
     (need (addressed (fieldsOf (codeIn s) s)) refusals.Address
     (Frame (fieldsOf (codeIn s) s))))))
 
--- refusals 7 and 8, of a frame of so many octets given
+-- refusals 7, 14, 15 and 8, in this order, of a frame of so many octets given
 abbrev pub readBodyOf : ℕ → Fields → Read
 readBodyOf given fields =
     need (ranged fields) refusals.Area
-    (need (not (isCyclic (fields .code)) || blocked given fields) refusals.Block
-    (Frame fields))
+    (need (not (isCyclic (fields .code)) || totalled fields) refusals.Total
+    (need (not (isCyclic (fields .code)) || numbered fields) refusals.Number
+    (need (not (isCyclic (fields .code)) || measured given fields) refusals.Block
+    (Frame fields))))
 
--- the fields, or the first of refusals 1 to 5, 7 and 8 that applies. A station asks 6 between the two parts, and 9 after them.
+-- the fields, or the first of refusals 1 to 5, 7, 14, 15 and 8 that applies. A station asks 6 between the two parts, and 9 after them.
 unfoldable pub readOf : List ℕ → Read
 readOf s = andThen (readHeaderOf s) (readBodyOf (length s))
 

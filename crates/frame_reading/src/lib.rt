@@ -69,7 +69,7 @@ fn is_addressed(fields: Fields) -> bool
     is_station(fields.source) & (!frame::is_token(code) | is_station(fields.destination))
 }
 
-// What it answers is not yet a frame: refusals 7 and 8 are asked by frame_body::read_body.
+// What it answers is not yet a frame: refusals 7, 14, 15 and 8 are asked by frame_body::read_body.
 pub fn read_header(s: &[u8]) -> Read
     ensures { λ r. ⌜ r ≡ readHeaderOf (now (s .entry)) ⌝ }
 {

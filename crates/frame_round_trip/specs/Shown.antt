@@ -11,7 +11,7 @@ use Rattle.frame.specs.declared.Code.{Code}
 use Rattle.frame.specs.declared.Code.the-variants.{Token, Cyclic, Request, Trigger}
 use Rattle.frame.specs.declared.Fields.{Fields}
 use Rattle.frame_round_trip.specs.Accepted.{Accepted}
-use Rattle.frame_reading.specs.Reading.{isStation, blocked}
+use Rattle.frame_reading.specs.Reading.{isStation, totalled, numbered, measured, blocked}
 
 -- a cyclic frame carries areas
 pub cyclic-carries : (code : Code) → isCyclic code ≡ true → carriesAreas code ≡ true
@@ -30,9 +30,6 @@ pub record Blocked (given : ℕ) (fields : Fields) : Type 0 where
   pub most : given - fields .size ≤ 96
 
 module _ (given : ℕ) (fields : Fields) (e : blocked given fields ≡ true) where
-  abbrev numbered : Bool
-  numbered = leb 1 (fields .block) && leb (fields .block) (fields .blocks)
-
   abbrev headed : Bool
   headed = leb 64 (given - fields .size) && leb (given - fields .size) 96
 
@@ -41,12 +38,12 @@ module _ (given : ℕ) (fields : Fields) (e : blocked given fields ≡ true) whe
 
   pub is-blocked : Blocked given fields
   is-blocked =
-      let rest = second (eqb (fields .blocks) (blocksOf (fields .areas))) (numbered && (sized && headed)) e in
-      let number = first numbered (sized && headed) rest in
-      let after = second numbered (sized && headed) rest in
+      let rest = second (totalled fields) (numbered fields && measured given fields) e in
+      let number = first (numbered fields) (measured given fields) rest in
+      let after = second (numbered fields) (measured given fields) rest in
       let header = second sized headed after in
       record {
-        total = eqb-true _ _ (first (eqb (fields .blocks) (blocksOf (fields .areas))) (numbered && (sized && headed)) e);
+        total = eqb-true _ _ (first (totalled fields) (numbered fields && measured given fields) e);
         from = leb-true _ _ (first (leb 1 (fields .block)) (leb (fields .block) (fields .blocks)) number);
         to = leb-true _ _ (second (leb 1 (fields .block)) (leb (fields .block) (fields .blocks)) number);
         size = eqb-true _ _ (first sized headed after);

@@ -109,7 +109,7 @@ fn hear_body(
     accept(station, frame, octets, memory, assembly)
 }
 
-// Number 6, then 7 and 8.
+// Number 6, then 7, 14, 15 and 8.
 fn hear_header(
     station: Station,
     frame: Fields,

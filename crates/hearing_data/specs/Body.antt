@@ -1,4 +1,4 @@
--- What a frame that passed refusals 7 and 8 is known to be. Assumes nothing.
+-- What a frame that passed refusals 7, 14, 15 and 8 is known to be. Assumes nothing.
 use Rattle.laws.specs.Usual.{_≡_, sym, ap, _∙_, Bool, true, cond, List, ℕ, _+_, _-_, _≤_, arith, length}
 use lib.ListN.{length-drop}
 use Rattle.area.specs.Areas.{inRange, memoryOctets}

@@ -1,4 +1,4 @@
--- Paper 01, "Numbers the station answers with": for each number, the calls and states to which it applies. Each definition says when its own
+-- Paper 01, "Numbers the station answers with", and E5 of paper 02: for each number, the calls and states to which it applies. Each definition says when its own
 -- condition holds, whatever the other numbers say of the same call. Which one is answered where several apply is the table `order` of
 -- crates/frame/specs/Refusals.antt. A refusal that a change request adds gets a definition of its own here, and a clause of `applies`.
 use Rattle.laws.specs.Usual.{Bool, false, cond, not, _&&_, _||_, List, [], _∷_, ℕ, _-_, length, eqb, ltb}
@@ -8,7 +8,7 @@ use Rattle.frame.specs.Codes.{codeOf, isKnown, isToken, isCyclic, carriesAreas}
 use Rattle.frame.specs.Octets.{wordAt, longAt}
 use Rattle.frame.specs.Positions.{TFL, TCD}
 use Rattle.frame.specs.Refusals.{order}
-use Rattle.frame.specs.declared.Refusal.the-variants.{Cut, Mark, Length, Code, Address, Taken, Area, Block, Stranger, NotDue, Buffer}
+use Rattle.frame.specs.declared.Refusal.the-variants.{Cut, Mark, Length, Code, Address, Taken, Area, Block, Stranger, NotDue, Buffer, Total, Number}
 use Rattle.frame_reading.specs.Reading.{marked, codeIn, fieldsOf, isStation}
 use Rattle.station.specs.Rules.Asking.{dueIn}
 use Rattle.station.specs.Rules.Calls.{Call, start, stop, tick, hear, ask, Verdict, refusedBy, unrefused}
@@ -18,7 +18,7 @@ use Rattle.station.specs.Types.{Fields, Refusal}
 use Rattle.station.specs.declared.Station.{Station}
 
 -- the fields as they stand in the octets heard. An octet that is not there reads 0. A code that is none of the four is none of 65000, 65001
--- and 65002, which are all that 5, 7, 8 and 9 ask of a code.
+-- and 65002, which are all that 5, 7, 14, 15, 8 and 9 ask of a code.
 abbrev pub frameIn : List ℕ → Fields
 frameIn octets = fieldsOf (codeIn octets) octets
 
@@ -69,13 +69,14 @@ areaApplies station tick = false
 areaApplies station (hear octets memory assembly) = carriesAreas (frameIn octets .code) && not (inRange (frameIn octets .areas))
 areaApplies station (ask memory turn output) = false
 
--- "TBN not as the areas give"
-abbrev pub wrongTotal : Fields → Bool
-wrongTotal frame = not (eqb (frame .blocks) (blocksOf (frame .areas)))
+-- 14 (E5): "TBN not as the areas give". As 8 did, 14 and 15 look "at cyclic frames only".
+abbrev pub totalApplies : Station → Call → Bool
+totalApplies station = heard (λ octets frame. isCyclic (frame .code) && not (eqb (frame .blocks) (blocksOf (frame .areas))))
 
--- "CBN not 1 to TBN"
-abbrev pub wrongNumber : Fields → Bool
-wrongNumber frame = ltb (frame .block) 1 || ltb (frame .blocks) (frame .block)
+-- 15 (E5): "CBN not 1 to TBN"
+abbrev pub numberApplies : Station → Call → Bool
+numberApplies station =
+    heard (λ octets frame. isCyclic (frame .code) && (ltb (frame .block) 1 || ltb (frame .blocks) (frame .block)))
 
 -- "BSIZE not that block's length"
 abbrev pub wrongSize : Fields → Bool
@@ -85,11 +86,10 @@ wrongSize frame = not (eqb (frame .size) (lengthOf (frame .areas) (frame .block)
 abbrev pub wrongHeader : ℕ → Fields → Bool
 wrongHeader given frame = ltb (given - frame .size) 64 || ltb 96 (given - frame .size)
 
--- 8: these four. "8 [looks] at cyclic frames only."
+-- 8: these two. "8 stays for the block's length and the header part."
 abbrev pub blockApplies : Station → Call → Bool
 blockApplies station =
-    heard (λ octets frame. isCyclic (frame .code)
-    && (wrongTotal frame || (wrongNumber frame || (wrongSize frame || wrongHeader (length octets) frame))))
+    heard (λ octets frame. isCyclic (frame .code) && (wrongSize frame || wrongHeader (length octets) frame))
 
 -- 9: "we participate, code 65000 or 65001, and the source, or the token's destination, is neither ours nor in our list"
 abbrev pub strangerApplies : Station → Call → Bool
@@ -130,6 +130,8 @@ applies Block = blockApplies
 applies Stranger = strangerApplies
 applies NotDue = notDueApplies
 applies Buffer = bufferApplies
+applies Total = totalApplies
+applies Number = numberApplies
 
 -- the first of some refusals that meets a test; where none does, the call is not refused
 abbrev pub firstOf : (Refusal → Bool) → List Refusal → Verdict

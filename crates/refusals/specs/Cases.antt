@@ -1,7 +1,7 @@
 -- Calls to which one number applies, or several, or none, each worked out by the rules and by the table. Assumes nothing.
 use Rattle.laws.specs.Usual.{_≡_, refl, List, [], _∷_, map, ℕ, set, replicate}
 use Rattle.area.specs.Areas.{memoryOctets}
-use Rattle.frame.specs.Positions.{TFL, TCD, C-SZ1, TBN}
+use Rattle.frame.specs.Positions.{TFL, TCD, C-SZ1, CBN, TBN, BSIZE}
 use Rattle.frame.specs.Refusals.{numberOf}
 use Rattle.members.specs.Listing.{listing}
 use Rattle.members.specs.Members.{noMembers}
@@ -61,7 +61,7 @@ request source = frameOf (requestFields source noAreas watch) []
 abbrev trigger : ℕ → List ℕ
 trigger source = frameOf (triggerFields source) []
 
--- the same octets with another mark, length, code, first area, or total
+-- the same octets with another mark, length, code, first area, total, block number or block length
 abbrev unmarked : List ℕ → List ℕ
 unmarked octets = set octets 0 0
 
@@ -74,8 +74,14 @@ uncoded octets = set octets TCD 0
 abbrev widened : List ℕ → List ℕ
 widened octets = set octets C-SZ1 255
 
-abbrev recounted : List ℕ → List ℕ
-recounted octets = set octets TBN 9
+abbrev recounted : ℕ → List ℕ → List ℕ
+recounted total octets = set octets TBN total
+
+abbrev renumbered : ℕ → List ℕ → List ℕ
+renumbered number octets = set octets CBN number
+
+abbrev resized : List ℕ → List ℕ
+resized octets = set octets BSIZE 1
 
 -- a call in a state, and the number that it is answered with
 pub record Row : Type 0 where
@@ -104,17 +110,29 @@ rows =
     ∷ row listening (hears (token 7 0)) 5
     ∷ row off (start (settingsOf 0 tooLarge 20)) 5
     ∷ row off (start (settingsOf 7 noAreas 0)) 5
-    -- 6 and 7, 7 and 8, 8 and 9
+    -- 6 and 7, 7 and 14, 14 and 9
     ∷ row listening (hears (widened (token 7 3))) 6
     ∷ row listening (hears (widened (token 3 9))) 7
-    ∷ row participant (hears (recounted (token 9 3))) 8
+    ∷ row participant (hears (recounted 9 (token 9 3))) 14
+    -- 14, 15 and 8; a total of 0 for empty areas, with 15; 14 alone, at an off station
+    ∷ row listening (hears (recounted 9 (renumbered 0 (resized (token 3 9))))) 14
+    ∷ row listening (hears (recounted 0 (token 3 9))) 14
+    ∷ row off (hears (recounted 9 (token 7 3))) 14
+    -- 15 and 8; 15 by block 0 and by the block after the last; 15 and 9
+    ∷ row listening (hears (renumbered 0 (resized (token 3 9)))) 15
+    ∷ row off (hears (renumbered 0 (token 7 3))) 15
+    ∷ row listening (hears (renumbered 2 (token 3 9))) 15
+    ∷ row participant (hears (renumbered 2 (token 9 3))) 15
+    -- 8 alone, 8 and 9
+    ∷ row listening (hears (resized (token 3 9))) 8
+    ∷ row participant (hears (resized (token 9 3))) 8
     -- 7 alone at a start; 9 alone, by the source and by the token's destination
     ∷ row off (start (settingsOf 7 tooLarge 20)) 7
     ∷ row participant (hears (token 9 3)) 9
     ∷ row participant (hears (token 3 9)) 9
-    -- none: 7 does not look at a trigger, nor 8 at a request, nor 6 at an off station, nor 9 before we participate
+    -- none: 7 does not look at a trigger, nor 14, 15 or 8 at a request, nor 6 at an off station, nor 9 before we participate
     ∷ row listening (hears (widened (trigger 3))) 0
-    ∷ row listening (hears (recounted (request 3))) 0
+    ∷ row listening (hears (recounted 9 (renumbered 0 (resized (request 3))))) 0
     ∷ row off (hears (token 7 3)) 0
     ∷ row listening (hears (token 9 3)) 0
     -- none

@@ -1,4 +1,5 @@
--- "Order: 11, 10, 1, 2, 3, 4, 5, 6, 7, 8, 9, the first that applies": what every call answers, as far as it is a refusal. Assumes nothing.
+-- Order: 11, 10, 1, 2, 3, 4, 5, 6, 7, 14, 15, 8, 9, "the first that applies": what every call answers, as far as it is a refusal. Assumes
+-- nothing.
 use Rattle.laws.specs.Usual.{_≡_, refl, sym, ap, _∙_, Bool, true, false, cond, not, _&&_, _||_, List, ℕ, suc, length, eqb, leb, ltb}
 use Prim.Native.Nat.{zero}
 use lib.Dec.{leb·zero, leb·suc-suc, eqb·suc-zero}
@@ -56,7 +57,7 @@ heard-choice : (test : Bool) (one other : Hearing)
 heard-choice true one other = refl
 heard-choice false one other = refl
 
--- what a hearing answers after 7 and 8, and after 1 to 5
+-- what a hearing answers after 7, 14, 15 and 8, and after 1 to 5
 module _ (station : Station) where
   bodyVerdict : Read → Verdict
   bodyVerdict (Refused refusal) = refusedBy refusal

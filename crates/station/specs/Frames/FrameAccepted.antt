@@ -7,7 +7,7 @@ use Rattle.frame.specs.Codes.{isToken, isCyclic}
 use Rattle.frame.specs.declared.Code.the-variants.{Token, Cyclic, Request, Trigger}
 use Rattle.laws.specs.Tests.{both}
 use Rattle.frame_reading.specs.Reading.{readOf, readHeaderOf, readBodyOf, dataOf}
-use Rattle.frame_round_trip.specs.Accepted.{Accepted, accepted as passed}
+use Rattle.frame_round_trip.specs.Accepted.{Accepted, accepted as passed, body-reads}
 use Rattle.station.specs.Outcomes.AskCases.{triggers, requests, begins, passes, AskCases, refuses, sends, ask-cases}
 use Rattle.station.specs.Frames.Asked.{CanSend, asked-back}
 use Rattle.station.specs.Rules.Asking.{isPlaced, dueIn, askOf, dueFields, Asking}
@@ -27,7 +27,7 @@ pub header-read : {s : List ℕ} {fields : Fields} → Accepted s fields → rea
 header-read a = simp (a .is-whole, a .is-marked, a .is-long, a .is-coded, a .holds, a .is-addressed)
 
 pub body-read : {s : List ℕ} {fields : Fields} → Accepted s fields → readBodyOf (length s) fields ≡ Frame fields
-body-read a = simp (a .is-ranged, a .is-blocked)
+body-read {s} {fields} a = body-reads (length s) fields (a .is-ranged) (a .is-blocked)
 
 -- a participant that lists the sender, and lists the destination or is it, and is not the sender. A request or a trigger may come from a
 -- station that is not listed yet, and goes to 255: there only `other` is asked.

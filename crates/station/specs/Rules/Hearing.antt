@@ -103,7 +103,7 @@ lentRight memory assembly = eqb (length memory) memoryOctets && eqb (length asse
 abbrev pub refused : Station → List ℕ → List ℕ → Refusal → Hearing
 refused station memory assembly refusal = record { station = station; answer = answers.Refused refusal; memory = memory; assembly = assembly }
 
--- 7, 8, 9, then the frame is heard
+-- 7, 14, 15, 8, 9, then the frame is heard
 abbrev pub bodyHeard : Station → List ℕ → List ℕ → List ℕ → Read → Hearing
 bodyHeard station octets memory assembly (Refused refusal) = refused station memory assembly refusal
 bodyHeard station octets memory assembly (Frame frame) =
@@ -119,7 +119,7 @@ headerHeard station octets memory assembly (Frame frame) =
     (refused (afterTaken station) memory assembly refusals.Taken)
     (bodyHeard station octets memory assembly (readBodyOf (length octets) frame))
 
--- "Order: 11, 10, 1, 2, 3, 4, 5, 6, 7, 8, 9, the first that applies."
+-- Order: 11, 10, 1, 2, 3, 4, 5, 6, 7, 14, 15, 8, 9, "the first that applies".
 abbrev pub hearOf : Station → List ℕ → List ℕ → List ℕ → Hearing
 hearOf station octets memory assembly =
     cond (lentRight memory assembly)

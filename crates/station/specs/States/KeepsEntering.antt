@@ -24,7 +24,7 @@ use Rattle.station.specs.Rules.Token.{viewHeard}
 use Rattle.station.specs.Rules.Waits.{detectionWait, numberWait}
 use Rattle.station.specs.Types.{Areas, Fields, Members, Phase, Off, Listening, Startup, Joining, Participating, Gathering, Station, Heard}
 
--- a frame that came through 1 to 5, 7 and 8
+-- a frame that came through 1 to 5, 7, 14, 15 and 8
 pub record Fit (frame : Fields) : Type 0 where
   pub source : isStation (frame .source) ≡ true
   pub destination : isToken (frame .code) ≡ true → isStation (frame .destination) ≡ true
