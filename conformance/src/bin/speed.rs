@@ -247,7 +247,7 @@ fn plain_frames() -> Vec<(&'static str, Vec<u8>)> {
         ("hear a frame with another mark", with(at::H_TYPE, 0)),
         ("hear a frame with our number (6)", with(at::SNA, 9)),
         ("hear an area out of its range (7)", with(at::C_AD2, 255)),
-        ("hear block 0 (8)", with(at::CBN, 0)),
+        ("hear block 0 (15)", with(at::CBN, 0)),
         ("hear a block of a station not listed", with(at::SNA, 3)),
         ("hear a trigger", Frame::trigger(2).octets(random)),
         (
