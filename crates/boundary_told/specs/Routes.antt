@@ -1,38 +1,29 @@
 -- What is told is that of the frame. Assumes nothing.
-use Rattle.laws.specs.Usual.{_≡_, refl, sym, ap, ap₂, _∙_, Bool, true, false, cond, not, _&&_, _||_, false≢true, List, ℕ, suc, _+_, _*_, _<_, _≤_, arith, length, take, getD, eqb, leb}
+use Rattle.laws.specs.Usual.{_≡_, refl, sym, ap, ap₂, _∙_, Bool, true, false, cond, List, ℕ, _<_, _≤_, arith, length, take, getD, eqb, leb}
 use borrow.Author.Tests.{eqb-true, leb-true}
 use lib.ListN.{length-take}
 use lib.Seq.{getD-take}
 use Rattle.laws.specs.Tests.{first}
-use Rattle.frame.specs.Codes.{codeNumber, codeOf, isCyclic}
+use Rattle.frame.specs.Codes.{codeNumber, codeOf}
 use Rattle.frame.specs.Octets.{octetAt, wordAt}
 use Rattle.frame.specs.Positions.{SNA, DNA, TCD}
 use Rattle.frame.specs.declared.Code.{Code}
 use Rattle.frame.specs.declared.Code.the-variants.{Token, Cyclic, Request, Trigger}
-use Rattle.frame.specs.declared.Coded.{Coded}
 use Rattle.frame.specs.declared.Coded.the-variants.{Known, Unknown}
 use Rattle.frame.specs.declared.Fields.{Fields}
-use Rattle.frame_reading.specs.Reading.{need, andThen, whole, marked, long, coded, codeIn, addressed, ranged, totalled, numbered, measured, readHeaderOf, readBodyOf, readOf, fieldsOf, dataOf}
+use Rattle.frame_reading.specs.Reading.{andThen, readHeaderOf, readBodyOf, readOf, fieldsOf}
 use Rattle.frame_reading.specs.declared.Read.the-variants.{Frame, Refused}
-use Rattle.frame.specs.Refusals.{numberOf}
 use Rattle.frame.specs.declared.Refusal.{Refusal}
-use Rattle.frame.specs.declared.Refusal.the-variants as refusals
 use Rattle.frame_reading.specs.declared.Read.{Read}
 use Rattle.frame_round_trip.specs.Accepted.{accepted as passed}
 use Rattle.station.specs.Rules.Asking.{Asking}
-use Rattle.station.specs.Rules.Data.{gathered}
-use Rattle.station.specs.Rules.Hearing.{enters, participantHeard, accepted, isTaken, afterTaken, isStranger, lentRight, refused, bodyHeard, headerHeard, hearOf}
-use Rattle.station.specs.Rules.State.{isOff, isParticipating}
-use Rattle.station.specs.declared.Data.the-variants.{Dropped}
 use Rattle.station.specs.declared.Heard.{Heard}
 use Rattle.station.specs.declared.Heard.the-variants as answers
-use Rattle.station.specs.declared.Token.the-variants.{None}
-use Rattle.station.specs.declared.Station.{Station}
 use Rattle.station.specs.declared.Asked.{Asked}
 use Rattle.station.specs.declared.Asked.the-variants as asked
-use Rattle.boundary_answers.specs.Numbers.{noFrame, heardAnswer, refusedAnswer, askedAnswer}
+use Rattle.boundary_answers.specs.Numbers.{noFrame, heardAnswer, askedAnswer}
 use Rattle.boundary_answers.specs.declared.Answer.{Answer}
-use Rattle.boundary_told.specs.Told.{routeOf, routeRead, routeIn, askedTold, writtenTold, isOpen, isUnread, withFrame, routeHeard, heardTold}
+use Rattle.boundary_told.specs.Told.{routeOf, routeRead, routeIn, askedTold, writtenTold, withFrame, heardTold}
 
 -- an asking's answer, by its numbers
 told-by : (output : List ℕ) (answer : Asked) → writtenTold output (askedAnswer answer) ≡ askedTold output answer
@@ -59,7 +50,12 @@ code-told number code e = by (eqb number 65000) refl (eqb number 65001) refl (eq
     by false _ false _ false _ true is h = sym (ap codeNumber (same h)) ∙ sym (eqb-true number 65012 is)
     by false _ false _ false _ false _ h = let z : _≡_ {A = ℕ} 0 1 = cc in absurd (omega arith)
 
--- an answer with the route of the frame that was read
+-- an answer with the route of what was read,
+pub told-heard : (octets : List ℕ) (answer : Heard) {told : Answer} → told ≡ heardAnswer answer
+    → withFrame told (routeRead (readOf octets)) ≡ heardTold octets answer
+told-heard octets answer e = ap (λ (t : Answer). withFrame t (routeRead (readOf octets))) e
+
+-- of a frame that was read,
 pub told-read : (octets : List ℕ) (frame : Fields) (answer : Heard) → readOf octets ≡ Frame frame
     → withFrame (heardAnswer answer) (routeOf frame) ≡ heardTold octets answer
 told-read octets frame answer read = ap (λ (r : Read). withFrame (heardAnswer answer) (routeRead r)) (sym read)
@@ -94,25 +90,6 @@ written-told count output frame e =
     let same : (at : ℕ) → at < 64 → getD front at 0 ≡ getD output at 0 = λ at h. getD-take count output at 0 (omega (arith, h, enough)) in
     rw (← same 40 (omega arith), ← same 41 (omega arith), ← same 11 (omega arith), ← same 15 (omega arith)) (read-told front frame e)
 
--- reading never answers 9
-abbrev notStranger : Read → Bool
-notStranger (Frame fields) = true
-notStranger (Refused refusal) = not (eqb (numberOf refusal) 9)
-
-need-not : (test : Bool) (refusal : Refusal) (rest : Read) → notStranger (Refused refusal) ≡ true → notStranger rest ≡ true
-    → notStranger (need test refusal rest) ≡ true
-need-not true refusal rest p q = q
-need-not false refusal rest p q = p
-
-header-not : (octets : List ℕ) → notStranger (readHeaderOf octets) ≡ true
-header-not octets =
-    need-not (whole octets) refusals.Cut _ refl (need-not (marked octets) refusals.Mark _ refl (need-not (long octets) refusals.Length _ refl (need-not (coded octets) refusals.Code _ refl (need-not (addressed (fieldsOf (codeIn octets) octets)) refusals.Address _ refl refl))))
-
-body-not : (given : ℕ) (fields : Fields) → notStranger (readBodyOf given fields) ≡ true
-body-not given fields =
-    let bare = not (isCyclic (fields .code)) in
-    need-not (ranged fields) refusals.Area _ refl (need-not (bare || totalled fields) refusals.Total _ refl (need-not (bare || numbered fields) refusals.Number _ refl (need-not (bare || measured given fields) refusals.Block _ refl refl)))
-
 -- a frame is read in two parts
 in-parts : (octets : List ℕ) → readOf octets ≡ andThen (readHeaderOf octets) (readBodyOf (length octets))
 unfolding readOf
@@ -124,81 +101,3 @@ header-unread octets refusal h = in-parts octets ∙ rw h
 pub body-unread : (octets : List ℕ) (header : Fields) (refusal : Refusal) → readHeaderOf octets ≡ Frame header
     → readBodyOf (length octets) header ≡ Refused refusal → readOf octets ≡ Refused refusal
 body-unread octets header refusal h b = in-parts octets ∙ rw h b
-
--- what a refusal of the reading tells
-unread : (octets : List ℕ) (refusal : Refusal) → readOf octets ≡ Refused refusal → notStranger (Refused refusal) ≡ true
-    → routeHeard octets (refusedAnswer refusal) ≡ routeRead (readOf octets)
-unread octets refusal e other = rw (e, other) (same (isOpen (refusedAnswer refusal)))
-  where
-    same : (again : Bool) → cond again noFrame noFrame ≡ noFrame
-    same true = refl
-    same false = refl
-
--- what is told by the answer's numbers is told by the frame that was read
-module _ (station : Station) (octets memory assembly : List ℕ) where
-  told-accepted : (frame : Fields) → readOf octets ≡ Frame frame
-      → routeHeard octets (heardAnswer (accepted station frame octets memory assembly .answer)) ≡ routeRead (readOf octets)
-  told-accepted frame read =
-      by (isParticipating (station .phase) && isCyclic (frame .code)) (isOff (station .phase)) (isCyclic (frame .code))
-      ∙ read-told octets frame read ∙ sym (ap routeRead read)
-    where
-      by : (gathers off cyclic : Bool)
-          → routeHeard octets (heardAnswer (cond gathers (participantHeard station frame (gathered station frame (dataOf octets frame) assembly memory))
-          (record {
-            station = enters (station .phase) (frame .code) station frame;
-            answer = cond off answers.Off (cond cyclic (answers.Cyclic (None Dropped)) answers.Done);
-            memory = memory;
-            assembly = assembly;
-          })
-          .answer)) ≡ routeIn octets
-      by true off cyclic = refl
-      by false true cyclic = refl
-      by false false true = refl
-      by false false false = refl
-
-  told-body : (header : Fields) → readHeaderOf octets ≡ Frame header → (read : Read) → readBodyOf (length octets) header ≡ read
-      → routeHeard octets (heardAnswer (bodyHeard station octets memory assembly read .answer)) ≡ routeRead (readOf octets)
-  told-body header h (Refused refusal) b =
-      unread octets refusal (body-unread octets header refusal h b) (sym (ap notStranger b) ∙ body-not (length octets) header)
-  told-body header h (Frame frame) b = by (isStranger station frame)
-    where
-      read : readOf octets ≡ Frame frame
-      read = in-parts octets ∙ rw h b
-
-      by : (stranger : Bool)
-          → routeHeard octets (heardAnswer (cond stranger (refused station memory assembly refusals.Stranger) (accepted station frame octets memory assembly) .answer))
-          ≡ routeRead (readOf octets)
-      by true = read-told octets frame read ∙ sym (ap routeRead read)
-      by false = told-accepted frame read
-
-  told-header : (read : Read) → readHeaderOf octets ≡ read
-      → routeHeard octets (heardAnswer (headerHeard station octets memory assembly read .answer)) ≡ routeRead (readOf octets)
-  told-header (Refused refusal) h = unread octets refusal (header-unread octets refusal h) (sym (ap notStranger h) ∙ header-not octets)
-  told-header (Frame header) h = by (isTaken station header)
-    where
-      by : (taken : Bool)
-          → routeHeard octets
-          (heardAnswer
-          (cond taken (refused (afterTaken station) memory assembly refusals.Taken)
-          (bodyHeard station octets memory assembly (readBodyOf (length octets) header))
-          .answer))
-          ≡ routeRead (readOf octets)
-      by true = refl
-      by false = told-body header h (readBodyOf (length octets) header) refl
-
-  heard-told : routeHeard octets (heardAnswer (hearOf station octets memory assembly .answer)) ≡ routeRead (readOf octets)
-  heard-told = by (lentRight memory assembly)
-    where
-      by : (lent : Bool)
-          → routeHeard octets
-          (heardAnswer
-          (cond lent (headerHeard station octets memory assembly (readHeaderOf octets)) (refused station memory assembly refusals.Buffer) .answer))
-          ≡ routeRead (readOf octets)
-      by true = told-header (readHeaderOf octets) refl
-      by false = refl
-
-  pub told-heard : (answer : Answer) → answer ≡ heardAnswer (hearOf station octets memory assembly .answer)
-      → withFrame answer (routeHeard octets answer) ≡ heardTold octets (hearOf station octets memory assembly .answer)
-  told-heard answer e =
-      ap (λ (a : Answer). withFrame a (routeHeard octets a)) e
-      ∙ ap (withFrame (heardAnswer (hearOf station octets memory assembly .answer))) heard-told

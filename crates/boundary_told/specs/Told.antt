@@ -1,13 +1,10 @@
 -- What an answer tells of the frame that was heard or written: its code, its source and its destination, so that a host need not look into
 -- the octets. A frame's route is its code, source and destination.
-use Rattle.laws.specs.Usual.{Bool, cond, not, _&&_, _||_, List, ℕ, eqb}
+use Rattle.laws.specs.Usual.{cond, List, ℕ, eqb}
 use Rattle.frame.specs.Codes.{codeNumber}
 use Rattle.frame.specs.Octets.{octetAt, wordAt}
 use Rattle.frame.specs.Positions.{SNA, DNA, TCD}
-use Rattle.frame.specs.Refusals.{numberOf}
 use Rattle.frame.specs.declared.Fields.{Fields}
-use Rattle.frame.specs.declared.Refusal.{Refusal}
-use Rattle.frame.specs.declared.Refusal.the-variants.{Taken, Stranger, Buffer}
 use Rattle.frame_reading.specs.Reading.{readOf}
 use Rattle.frame_reading.specs.declared.Read.{Read}
 use Rattle.frame_reading.specs.declared.Read.the-variants.{Frame, Refused}
@@ -51,21 +48,6 @@ abbrev pub askedTold : List ℕ → Asked → Answer
 askedTold output (asked.Octets count) = withFrame (frameAnswer count) (routeIn output)
 askedTold output (asked.Refused refusal) = refusedAnswer refusal
 
--- The same by the numbers of an answer alone: 3 is the word of one that is a frame,
+-- the same by the numbers of an answer alone: 3 is the word of one that is a frame
 abbrev pub writtenTold : List ℕ → Answer → Answer
 writtenTold output answer = cond (eqb (answer .word) 3) (withFrame answer (routeIn output)) answer
-
--- 4 that of a refusal
-abbrev pub isBy : Refusal → Answer → Bool
-isBy refusal answer = eqb (answer .word) 4 && eqb (answer .refusal) (numberOf refusal)
-
--- 6 and 11 are answered to frames that can be read and to others
-abbrev pub isOpen : Answer → Bool
-isOpen answer = isBy Taken answer || isBy Buffer answer
-
--- but for these, only 9 is answered to a frame that was read
-abbrev pub isUnread : Answer → Bool
-isUnread answer = eqb (answer .word) 4 && not (isBy Stranger answer)
-
-abbrev pub routeHeard : List ℕ → Answer → Route
-routeHeard octets answer = cond (isOpen answer) (routeRead (readOf octets)) (cond (isUnread answer) noFrame (routeIn octets))

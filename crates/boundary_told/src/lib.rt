@@ -2,10 +2,8 @@
 use boundary_answers::Answer;
 use boundary_answers::FRAME;
 use boundary_answers::NO_FRAME;
-use boundary_answers::REFUSED;
 use boundary_answers::Route;
 use frame::Fields;
-use frame::Refusal;
 use frame_reading::DNA;
 use frame_reading::Read;
 use frame_reading::SNA;
@@ -13,7 +11,7 @@ use frame_reading::TCD;
 ghost use Rattle.laws.specs.Usual.{_≡_};
 ghost use Rattle.frame.specs.Octets.{octetAt};
 ghost use Rattle.frame_reading.specs.Reading.{readOf};
-ghost use Rattle.boundary_told.specs.Told.{routeOf, routeRead, routeIn, withFrame, isBy, routeHeard, writtenTold};
+ghost use Rattle.boundary_told.specs.Told.{routeOf, routeRead, routeIn, withFrame, writtenTold};
 
 fn route_of(frame: Fields) -> Route
     ensures { λ r. ⌜ r ≡ routeOf frame ⌝ }
@@ -62,30 +60,11 @@ fn route_in(s: &[u8]) -> Route
     }
 }
 
-fn is_by(refusal: Refusal, answer: Answer) -> bool
-    ensures { λ r. ⌜ r ≡ isBy refusal answer ⌝ }
-{
-    (answer.word == REFUSED) & (answer.refusal == frame::number_of(refusal))
-}
-
-fn route_heard(answer: Answer, octets: &[u8]) -> Route
-    ensures { λ r. ⌜ r ≡ routeHeard (now (octets .entry)) answer ⌝ }
-{
-    if is_by(Refusal::Taken, answer) | is_by(Refusal::Buffer, answer) {
-        return route_read(octets);
-    }
-    if (answer.word == REFUSED) & !is_by(Refusal::Stranger, answer) {
-        NO_FRAME
-    } else {
-        route_in(octets)
-    }
-}
-
-// The answer to a frame that was heard. All but 6 and 11 tell whether it was read, so that it need not be read again.
+// The answer to octets that may be a frame, or none.
 pub fn tell_heard(answer: Answer, octets: &[u8]) -> Answer
-    ensures { λ r. ⌜ r ≡ withFrame answer (routeHeard (now (octets .entry)) answer) ⌝ }
+    ensures { λ r. ⌜ r ≡ withFrame answer (routeRead (readOf (now (octets .entry)))) ⌝ }
 {
-    let frame = route_heard(answer, octets);
+    let frame = route_read(octets);
     Answer { frame, ..answer }
 }
 

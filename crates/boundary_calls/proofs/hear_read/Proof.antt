@@ -82,7 +82,7 @@ returns-3 c =
     let a = c .before .before .before .before .before .before .before .before .before .before .before .before .before .before .before .before .before .before .before .args in
     let done = c .before .before .before .before .before .before .before .hear-barred .ensures in
     let members = membersIn (a .listed .now) (a .areas .now) (a .watch .now) (a .misses .now) in
-    let told = told-heard (stationOf (a .core) members) (a .octets .now) (a .memory .now) (a .assembly .now) _ (done .1 .0) in
+    let told = told-heard (a .octets .now) (hearOf (stationOf (a .core) members) (a .octets .now) (a .memory .now) (a .assembly .now) .answer) (done .1 .0) in
     (done .0, (c .tell-heard .ensures ∙ told, done .1 .1))
 
 pub hear-read-spec : {M : Type 1} → statement M
