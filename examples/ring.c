@@ -10,7 +10,7 @@
 
 /* What a host keeps for its station from call to call. This part is what the firmware of one station needs. */
 typedef struct {
-    flnet_station station;                 /* its state and its list */
+    flnet_station station;                 /* its core and its list */
     uint8_t memory[FLNET_MEMORY_OCTETS];   /* the common memory: the host writes its own areas, frames write the others */
     uint8_t assembly[FLNET_MEMORY_OCTETS]; /* lent to each hearing as the last one left it */
     uint8_t turn[FLNET_MEMORY_OCTETS];     /* lent to each asking as the last one left it */
@@ -58,7 +58,7 @@ static bool send_one(long now)
         }
         if (length > 0) {
             printf("%ld: station %d sends %zu octets of code %d to %d at port %d, holder %d\n", now, from + 1, length, answer.frame.code,
-                   answer.frame.destination, flnet_port(answer.frame.code), hosts[from].station.core.view);
+                   answer.frame.destination, flnet_port(answer.frame.code), (int)hosts[from].station.core.view);
             return true;
         }
     }
@@ -79,7 +79,7 @@ int main(void)
             bool before = hosts[at].station.core.phase == FLNET_PHASE_PARTICIPATING;
             tick(&hosts[at]);
             if (!before && hosts[at].station.core.phase == FLNET_PHASE_PARTICIPATING) {
-                printf("%ld: station %d participates, %d holds the token\n", now, at + 1, hosts[at].station.core.view);
+                printf("%ld: station %d participates, %d holds the token\n", now, at + 1, (int)hosts[at].station.core.view);
             }
         }
         free_at = now >= free_at && send_one(now) ? now + FRAME_TICKS : free_at;

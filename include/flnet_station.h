@@ -1,13 +1,12 @@
 /*
  * The proved FL-net station, for C.
  *
- * A station is a core, which every call takes by value and gives back changed, and a list, which is lent to the call and changed in place.
- * The caller keeps both and hands them to the next call. No call waits, allocates or keeps a pointer; any core, any list, any octets and any
- * lengths are answered.
+ * A station is a core and a list, both lent to the call and changed in place. The caller keeps them and lends them to the next call. No call
+ * waits, allocates or keeps a pointer; any core, any list, any octets and any lengths are answered.
  *
- * A lent buffer is a pointer and a number of octets. The pointer is never null, not even for 0 octets, and nothing that is lent to one call
- * overlaps. Each bool of a core or a list is true or false, as C keeps it. What each call leaves in a buffer is said beside it; a refused call
- * leaves everything as it was, but for number 6 before we participate.
+ * A lent buffer is a pointer and a number of octets. No pointer is null, not even one to 0 octets, and nothing that is lent to one call
+ * overlaps. Each bool of a list is true or false, as C keeps it. What each call leaves in a buffer is said beside it; a refused call leaves
+ * everything as it was, every number of the core, the list and the buffers, but for number 6 before we participate.
  */
 #ifndef FLNET_STATION_H
 #define FLNET_STATION_H
@@ -46,7 +45,7 @@ extern "C" {
 #define FLNET_PORT_REQUEST_AND_TRIGGER 55002
 #define FLNET_PORT_FROM 55003
 
-/* Phases of a station. Any other number counts as off, and comes back as 0. */
+/* Phases of a station. Any other number counts as off, and stays until another phase begins. */
 #define FLNET_PHASE_OFF 0
 #define FLNET_PHASE_LISTENING 1
 #define FLNET_PHASE_STARTUP 2
@@ -122,34 +121,31 @@ typedef struct {
     uint8_t misses[256];  /* in a row, 0 to 2 */
 } flnet_list;
 
-/* What has been put together of a turn. All zeros: nothing. */
-typedef struct {
-    uint8_t source;
-    uint8_t blocks;
-} flnet_gathering;
-
-typedef struct {
-    uint8_t takings;  /* of the token since we began to participate; 2 stands for more */
-    uint32_t running; /* ticks since the last taking, before the first since we began to participate; 65,536 stands for more */
-    uint32_t gap;     /* what running was at the last taking */
-} flnet_panel;
-
 /*
- * The state of a station but for its list, for the host to keep and to read. What a phase does not use is 0 in it. All zeros is a station
- * that was never started.
+ * The state of a station but for its list, for the host to keep and to read: 18 numbers of 32 bits. What a phase does not use is 0 in it. All
+ * zeros is a station that was never started. Of a number that stands for an octet, two octets or a flag only the low 8 bits, the low 16 or
+ * the lowest one count. What stands above them flnet_new makes 0, and every other call leaves as it is.
  */
 typedef struct {
-    uint8_t phase;
-    flnet_settings own; /* off: only the number last started with */
-    uint8_t view;       /* participating: the number taken to be the holder; joining: the last token destination heard */
-    uint8_t block;      /* participating: blocks of our turn that have been sent */
-    uint32_t elapsed;   /* ticks since listening or ring startup began (listening stops counting when its trigger is due), in joining since
-                           the last token frame, as a participant since the watch restarted */
-    uint32_t waited;    /* joining: ticks since the third round ended, until our request is due */
-    uint8_t rounds;     /* joining: rounds that have ended, at most 3 */
-    bool sent;          /* ring startup: our request has been sent */
-    flnet_gathering gathering;
-    flnet_panel panel;
+    uint32_t phase;       /* an octet */
+    uint32_t number;      /* an octet: ours; off: the number last started with */
+    uint32_t address_one; /* two octets: what we have of area 1 */
+    uint32_t size_one;    /* two octets */
+    uint32_t address_two; /* two octets: what we have of area 2 */
+    uint32_t size_two;    /* two octets */
+    uint32_t watch;       /* an octet: our watch time in milliseconds */
+    uint32_t view;        /* an octet; participating: the number taken to be the holder; joining: the last token destination heard */
+    uint32_t block;       /* an octet; participating: blocks of our turn that have been sent */
+    uint32_t elapsed;     /* ticks since listening or ring startup began (listening stops counting when its trigger is due), in joining since
+                             the last token frame, as a participant since the watch restarted */
+    uint32_t waited;      /* joining: ticks since the third round ended, until our request is due */
+    uint32_t rounds;      /* an octet; joining: rounds that have ended, at most 3 */
+    uint32_t sent;        /* a flag; ring startup: our request has been sent */
+    uint32_t source;      /* an octet: whose turn is being put together; 0: nobody's */
+    uint32_t blocks;      /* an octet: how many blocks of it have been put together */
+    uint32_t takings;     /* an octet: takings of the token since we began to participate; 2 stands for more */
+    uint32_t running;     /* ticks since the last taking, before the first since we began to participate; 65,536 stands for more */
+    uint32_t gap;         /* what running was at the last taking */
 } flnet_core;
 
 /* A station as a host keeps it. */
@@ -193,12 +189,6 @@ static inline uint16_t flnet_port(uint16_t code)
     return code == FLNET_CODE_TOKEN || code == FLNET_CODE_CYCLIC ? FLNET_PORT_CYCLIC : FLNET_PORT_REQUEST_AND_TRIGGER;
 }
 
-/* A call's result: the core after it, and the answer. */
-typedef struct {
-    flnet_core core;
-    flnet_answer answer;
-} flnet_result;
-
 /* What the panel shows, and its text in ASCII with zeros behind it. */
 typedef struct {
     uint8_t kind;
@@ -213,114 +203,104 @@ typedef struct {
     uint32_t ticks; /* that bring none; the one after them does. 0 where it never ends */
 } flnet_quiet_ticks;
 
-/* A station that was never started: its core, and the list, which is emptied. */
-flnet_core flnet_new(bool *listed, uint16_t *areas, uint8_t *watch, uint8_t *misses);
+/* Makes a station that was never started, of whatever stands there: every number of the core becomes 0, all of it, and the list is emptied. */
+void flnet_new(flnet_core *core, bool *listed, uint16_t *areas, uint8_t *watch, uint8_t *misses);
 
 /* Starts an off station: done, or refused with 10, 5 or 7. */
-flnet_result flnet_start(flnet_core core, bool *listed, uint16_t *areas, uint8_t *watch, uint8_t *misses, flnet_settings own);
+flnet_answer flnet_start(flnet_core *core, bool *listed, uint16_t *areas, uint8_t *watch, uint8_t *misses, flnet_settings own);
 
 /* Stops a station that is not off: done, or refused with 10. */
-flnet_result flnet_stop(flnet_core core, bool *listed, uint16_t *areas, uint8_t *watch, uint8_t *misses);
+flnet_answer flnet_stop(flnet_core *core, bool *listed, uint16_t *areas, uint8_t *watch, uint8_t *misses);
 
 /*
  * Every 100 microseconds: off or done. A host that was not scheduled in time catches up: it orders what it has received by the time of its
  * arrival, ticks up to each and hears it, ticks up to now, and only then asks. A watch time has to be longer than the host can be late, or
  * the others take the token from it.
  */
-flnet_result flnet_tick(flnet_core core, bool *listed, uint16_t *areas, uint8_t *watch, uint8_t *misses);
+flnet_answer flnet_tick(flnet_core *core, bool *listed, uint16_t *areas, uint8_t *watch, uint8_t *misses);
 
 /*
  * So many ticks in one call, for a host that slept or was not scheduled: the same as that many calls of flnet_tick one after the other, with
  * the answer of the last. Ticks that only count are jumped over, so that many of them take no longer than one. No ticks change nothing, and
  * are answered as one tick would be.
  */
-flnet_result flnet_ticks(flnet_core core, bool *listed, uint16_t *areas, uint8_t *watch, uint8_t *misses, uint32_t count);
+flnet_answer flnet_ticks(flnet_core *core, bool *listed, uint16_t *areas, uint8_t *watch, uint8_t *misses, uint32_t count);
 
 /*
  * How many ticks can come, with no other call between, before one brings news: another phase, another view, or a frame that was not due
  * before. A frame that is due already is no news, so ask first. A host can then sleep until one tick more than these have come, or until
  * a frame comes; it ticks up to that moment with flnet_ticks, and hears or asks as ever. Of the list only the flags are read.
  */
-flnet_quiet_ticks flnet_quiet(flnet_core core, const bool *listed);
+flnet_quiet_ticks flnet_quiet(const flnet_core *core, const bool *listed);
 
 /*
  * A frame from the wire, but not one of ours that the network gives back: a station that hears its own number before it participates is
  * turned off (number 6). Off, done, cyclic, or refused with any number but 10. A finished turn is written to its source's areas of the
  * common memory. A block that is kept or finishes a turn is stored in the assembly buffer, which the host lends again as it was left.
  */
-flnet_result flnet_hear(flnet_core core, bool *listed, uint16_t *areas, uint8_t *watch, uint8_t *misses, const uint8_t *octets, size_t octets_length,
-                        uint8_t *memory, size_t memory_length, uint8_t *assembly, size_t assembly_length);
+flnet_answer flnet_hear(flnet_core *core, bool *listed, uint16_t *areas, uint8_t *watch, uint8_t *misses, const uint8_t *octets,
+                        size_t octets_length, uint8_t *memory, size_t memory_length, uint8_t *assembly, size_t assembly_length);
 
 /*
  * Asks for the frame that is due, after each tick and each frame heard: frame, or refused with 11 or 10. Send it before the next call. Ask
  * again after a frame without the token, but only as fast as frames go out: a station alone in its list always has a frame due, so a loop
- * that asks until it is refused would never end. The frame stands at the front of the output. At the first block of a
- * turn our areas are copied from the common memory to the front of the turn buffer, which the host lends again as it was left. The host writes its own areas of the common memory, and nothing else
- * of it, between calls; what it writes during a turn goes out with the next one.
+ * that asks until it is refused would never end. The frame stands at the front of the output. At the first block of a turn our areas are
+ * copied from the common memory to the front of the turn buffer, which the host lends again as it was left. The host writes its own areas of
+ * the common memory, and nothing else of it, between calls; what it writes during a turn goes out with the next one.
  */
-flnet_result flnet_ask(flnet_core core, bool *listed, uint16_t *areas, uint8_t *watch, uint8_t *misses, const uint8_t *memory, size_t memory_length,
-                       uint8_t *turn, size_t turn_length, uint8_t *output, size_t output_length);
+flnet_answer flnet_ask(flnet_core *core, bool *listed, uint16_t *areas, uint8_t *watch, uint8_t *misses, const uint8_t *memory,
+                       size_t memory_length, uint8_t *turn, size_t turn_length, uint8_t *output, size_t output_length);
 
 /* What the front panel shows. */
-flnet_figure flnet_show(flnet_core core);
+flnet_figure flnet_show(const flnet_core *core);
 
-/*
- * The same calls on a station that the caller keeps: each puts the core that it gets back into the station, whatever the answer.
- */
+/* The same calls on a station that the caller keeps. */
 
 static inline void flnet_station_new(flnet_station *station)
 {
-    station->core = flnet_new(FLNET_LIST(*station));
-}
-
-static inline flnet_answer flnet_station_keep(flnet_station *station, flnet_result result)
-{
-    station->core = result.core;
-    return result.answer;
+    flnet_new(&station->core, FLNET_LIST(*station));
 }
 
 static inline flnet_answer flnet_station_start(flnet_station *station, flnet_settings own)
 {
-    return flnet_station_keep(station, flnet_start(station->core, FLNET_LIST(*station), own));
+    return flnet_start(&station->core, FLNET_LIST(*station), own);
 }
 
 static inline flnet_answer flnet_station_stop(flnet_station *station)
 {
-    return flnet_station_keep(station, flnet_stop(station->core, FLNET_LIST(*station)));
+    return flnet_stop(&station->core, FLNET_LIST(*station));
 }
 
 static inline flnet_answer flnet_station_tick(flnet_station *station)
 {
-    return flnet_station_keep(station, flnet_tick(station->core, FLNET_LIST(*station)));
+    return flnet_tick(&station->core, FLNET_LIST(*station));
 }
 
 static inline flnet_answer flnet_station_ticks(flnet_station *station, uint32_t count)
 {
-    return flnet_station_keep(station, flnet_ticks(station->core, FLNET_LIST(*station), count));
+    return flnet_ticks(&station->core, FLNET_LIST(*station), count);
 }
 
 static inline flnet_quiet_ticks flnet_station_quiet(const flnet_station *station)
 {
-    return flnet_quiet(station->core, station->list.listed);
+    return flnet_quiet(&station->core, station->list.listed);
 }
 
 static inline flnet_answer flnet_station_hear(flnet_station *station, const uint8_t *octets, size_t octets_length, uint8_t *memory,
                                               size_t memory_length, uint8_t *assembly, size_t assembly_length)
 {
-    return flnet_station_keep(station, flnet_hear(station->core, FLNET_LIST(*station), octets, octets_length, memory, memory_length, assembly,
-                                                  assembly_length));
+    return flnet_hear(&station->core, FLNET_LIST(*station), octets, octets_length, memory, memory_length, assembly, assembly_length);
 }
 
 static inline flnet_answer flnet_station_ask(flnet_station *station, const uint8_t *memory, size_t memory_length, uint8_t *turn,
                                              size_t turn_length, uint8_t *output, size_t output_length)
 {
-    return flnet_station_keep(station, flnet_ask(station->core, FLNET_LIST(*station), memory, memory_length, turn, turn_length, output,
-                                                 output_length));
+    return flnet_ask(&station->core, FLNET_LIST(*station), memory, memory_length, turn, turn_length, output, output_length);
 }
 
 static inline flnet_figure flnet_station_show(const flnet_station *station)
 {
-    return flnet_show(station->core);
+    return flnet_show(&station->core);
 }
 
 #ifndef __cplusplus
@@ -328,13 +308,11 @@ static_assert(sizeof(flnet_part) == 4, "flnet_part");
 static_assert(sizeof(flnet_areas) == 8, "flnet_areas");
 static_assert(sizeof(flnet_settings) == 12, "flnet_settings");
 static_assert(sizeof(flnet_list) == 2816, "flnet_list");
-static_assert(sizeof(flnet_gathering) == 2, "flnet_gathering");
-static_assert(sizeof(flnet_panel) == 12, "flnet_panel");
-static_assert(sizeof(flnet_core) == 40, "flnet_core");
-static_assert(sizeof(flnet_station) == 2856, "flnet_station");
+static_assert(sizeof(flnet_core) == 72, "flnet_core");
+static_assert(offsetof(flnet_core, elapsed) == 36 && offsetof(flnet_core, gap) == 68, "the order of flnet_core");
+static_assert(sizeof(flnet_station) == 2888, "flnet_station");
 static_assert(sizeof(flnet_route) == 4, "flnet_route");
 static_assert(sizeof(flnet_answer) == 16, "flnet_answer");
-static_assert(sizeof(flnet_result) == 56, "flnet_result");
 static_assert(sizeof(flnet_figure) == 24, "flnet_figure");
 static_assert(sizeof(flnet_quiet_ticks) == 8, "flnet_quiet_ticks");
 #else

@@ -7,7 +7,7 @@ use crate::model::frame::Header;
 use crate::model::Model;
 use crate::names;
 use crate::random::Random;
-use std::fmt::{Debug, Write};
+use std::fmt::Write;
 
 pub struct Both {
     seed: u64,
@@ -16,43 +16,39 @@ pub struct Both {
     proved: Station,
     model_lent: Buffers,
     proved_lent: Buffers,
-    /// What both showed after the last call.
+    /// What both showed after the last call, as far as it counts.
     state: Station,
 }
 
-/// What an answer tells of the frame that was heard or written. The model's calls leave it out, so
-/// that they are not slowed by reading a frame twice.
+/// What an answer tells of the frame that was heard or written, by reading it once more.
 fn route(call: &Call, answer: &Answer, lent: &Buffers) -> Route {
     let octets = match call {
         Call::Hear { octets, .. } => octets,
         Call::Ask { .. } => &lent.output[..answer.octets],
         _ => &[][..],
     };
-    Header::of(octets).map_or_else(Route::default, |header| Route {
-        code: header.code as u16,
-        source: header.source,
-        destination: header.destination,
-    })
+    Header::of(octets).map_or_else(Route::default, Route::from)
 }
 
 impl Both {
-    /// Two stations that were never started, with the same noise in their buffers.
+    /// Two stations that were never started, with the same noise in their buffers, and the proved
+    /// one's core with noise wherever it does not count.
     pub fn new(seed: u64, random: &mut Random) -> Both {
         let lent = Buffers::new(random);
-        let both = Both {
+        let model = Model::new();
+        let state = Station::from(&model);
+        let mut proved = Station::new();
+        assert!(state == proved, "a station that was never started");
+        proved.core = Core::drawn(|| random.number() as u32).kept(&state.core);
+        Both {
             seed,
             calls: 0,
-            model: Model::new(),
-            proved: Station::new(),
+            model,
+            proved,
             model_lent: lent.clone(),
             proved_lent: lent,
-            state: Station::from(&Model::new()),
-        };
-        assert!(
-            both.state == both.proved,
-            "a station that was never started"
-        );
-        both
+            state,
+        }
     }
 
     pub fn state(&self) -> &Station {
@@ -77,11 +73,15 @@ impl Both {
         self.calls += 1;
         let mut expected = perform(&mut self.model, call, &mut self.model_lent);
         expected.frame = route(call, &expected, &self.model_lent);
+        let before = self.proved.core;
         let given = perform(&mut self.proved, call, &mut self.proved_lent);
         let state = Station::from(&self.model);
+        let core = before.kept(&state.core);
+        let same_state = core == self.proved.core && state.list == self.proved.list;
         let same_lent = !call.lends() || self.model_lent == self.proved_lent;
-        if expected != given || state != self.proved || !same_lent {
-            panic!("{}", self.report(call, &expected, &given));
+        if expected != given || !same_state || !same_lent {
+            let left = Station { core, ..state };
+            panic!("{}", self.report(call, &expected, &given, &left));
         }
         self.state = state;
         given
@@ -128,7 +128,7 @@ impl Both {
         self.model = Model::from(&self.state);
     }
 
-    fn report(&self, call: &Call, expected: &Answer, given: &Answer) -> String {
+    fn report(&self, call: &Call, expected: &Answer, given: &Answer, left: &Station) -> String {
         let mut text = format!(
             "seed {}, call {}: {}\n",
             self.seed,
@@ -143,7 +143,7 @@ impl Both {
         }
         writeln!(text, "  model: {}", names::answer(expected)).unwrap();
         writeln!(text, "  proved: {}", names::answer(given)).unwrap();
-        text += &differences(&Station::from(&self.model), &self.proved);
+        text += &differences(left, &self.proved);
         for ((name, model), (_, proved)) in
             self.model_lent.named().iter().zip(self.proved_lent.named())
         {
@@ -175,32 +175,19 @@ pub fn differences(expected: &Station, proved: &Station) -> String {
 }
 
 fn is_nothing(value: &str) -> bool {
-    ["0", "false"].contains(&value) || value.starts_with("Entry { listed: false")
+    value == "0 (0x0)" || value.starts_with("Entry { listed: false")
 }
 
 /// Every field of a state by name.
 fn fields(station: &Station) -> Vec<(String, String)> {
-    fn field(name: &str, value: impl Debug) -> (String, String) {
-        (name.into(), format!("{value:?}"))
+    let phase = names::phase(station.core.phase());
+    let mut fields = vec![("phase by name".into(), phase.into())];
+    for (name, value) in station.core.named() {
+        fields.push((name.into(), format!("{value} ({value:#x})")));
     }
-    let Core { phase, .. } = station.core;
-    let mut fields = vec![
-        ("phase".into(), format!("{phase} ({})", names::phase(phase))),
-        field("own", station.core.own),
-        field("elapsed", station.core.elapsed),
-        field("waited", station.core.waited),
-        field("rounds", station.core.rounds),
-        field("sent", station.core.sent),
-        field("view", station.core.view),
-        field("block", station.core.block),
-        field("gathering", station.core.gathering),
-        field("panel", station.core.panel),
-    ];
     for number in 0..=255 {
-        fields.push(field(
-            &format!("list at {number}"),
-            station.list.entry(number),
-        ));
+        let entry = station.list.entry(number);
+        fields.push((format!("list at {number}"), format!("{entry:?}")));
     }
     fields
 }

@@ -1,5 +1,7 @@
 //! The types and calls of `include/flnet_station.h`, and the calls on borrowed slices.
 
+use crate::names::{OFF, PARTICIPATING};
+
 #[repr(C)]
 #[derive(Clone, Copy, Debug, Default, PartialEq, Eq)]
 pub struct Part {
@@ -91,35 +93,145 @@ impl List {
     }
 }
 
-#[repr(C)]
-#[derive(Clone, Copy, Debug, Default, PartialEq, Eq)]
-pub struct Gathering {
-    pub source: u8,
-    pub blocks: u8,
+/// How much of a number counts.
+const OCTET: u32 = 0xff;
+const OCTETS: u32 = 0xffff;
+const FLAG: u32 = 1;
+const ALL: u32 = u32::MAX;
+
+/// The numbers of a core in their order, with how much of each counts.
+macro_rules! core {
+    ($($name:ident: $counts:expr),+) => {
+        /// A station's state but for its list, in numbers of which some count by their low part only.
+        #[repr(C)]
+        #[derive(Clone, Copy, Debug, Default, PartialEq, Eq)]
+        pub struct Core {
+            $(pub $name: u32),+
+        }
+
+        impl Core {
+            /// The numbers by their names.
+            pub fn named(&self) -> [(&'static str, u32); 18] {
+                [$((stringify!($name), self.$name)),+]
+            }
+
+            /// Each number drawn in its turn.
+            pub fn drawn(mut draw: impl FnMut() -> u32) -> Core {
+                Core { $($name: draw()),+ }
+            }
+
+            /// The low parts of one core with what stands above them in another.
+            pub fn below(&self, above: &Core) -> Core {
+                Core { $($name: self.$name & $counts | above.$name & !$counts),+ }
+            }
+        }
+    };
 }
 
-#[repr(C)]
-#[derive(Clone, Copy, Debug, Default, PartialEq, Eq)]
-pub struct Panel {
-    pub takings: u8,
-    pub running: u32,
-    pub gap: u32,
+core! {
+    phase: OCTET,
+    number: OCTET,
+    address_one: OCTETS,
+    size_one: OCTETS,
+    address_two: OCTETS,
+    size_two: OCTETS,
+    watch: OCTET,
+    view: OCTET,
+    block: OCTET,
+    elapsed: ALL,
+    waited: ALL,
+    rounds: OCTET,
+    sent: FLAG,
+    source: OCTET,
+    blocks: OCTET,
+    takings: OCTET,
+    running: ALL,
+    gap: ALL
 }
 
-/// A station's state but for its list.
-#[repr(C)]
-#[derive(Clone, Copy, Debug, Default, PartialEq, Eq)]
-pub struct Core {
-    pub phase: u8,
-    pub own: Settings,
-    pub view: u8,
-    pub block: u8,
-    pub elapsed: u32,
-    pub waited: u32,
-    pub rounds: u8,
-    pub sent: bool,
-    pub gathering: Gathering,
-    pub panel: Panel,
+/// What the numbers stand for.
+impl Core {
+    /// Any number but those of the phases is off.
+    pub fn phase(&self) -> u8 {
+        match self.phase as u8 {
+            phase @ OFF..=PARTICIPATING => phase,
+            _ => OFF,
+        }
+    }
+
+    pub fn own(&self) -> Settings {
+        let part = |address, size| Part {
+            address: address as u16,
+            size: size as u16,
+        };
+        Settings {
+            number: self.number as u8,
+            areas: Areas {
+                one: part(self.address_one, self.size_one),
+                two: part(self.address_two, self.size_two),
+            },
+            watch: self.watch as u8,
+        }
+    }
+
+    pub fn set_own(&mut self, own: Settings) {
+        let Areas { one, two } = own.areas;
+        self.number = own.number.into();
+        self.address_one = one.address.into();
+        self.size_one = one.size.into();
+        self.address_two = two.address.into();
+        self.size_two = two.size.into();
+        self.watch = own.watch.into();
+    }
+
+    pub fn view(&self) -> u8 {
+        self.view as u8
+    }
+
+    pub fn block(&self) -> u8 {
+        self.block as u8
+    }
+
+    pub fn rounds(&self) -> u8 {
+        self.rounds as u8
+    }
+
+    pub fn sent(&self) -> bool {
+        self.sent & FLAG == 1
+    }
+
+    pub fn source(&self) -> u8 {
+        self.source as u8
+    }
+
+    pub fn blocks(&self) -> u8 {
+        self.blocks as u8
+    }
+
+    pub fn takings(&self) -> u8 {
+        self.takings as u8
+    }
+
+    /// What counts of the numbers, with nothing above it.
+    pub fn counted(&self) -> Core {
+        Core {
+            phase: self.phase().into(),
+            ..self.below(&Core::default())
+        }
+    }
+
+    /// These numbers when a call has left a core that counts as that one: what stands above stays,
+    /// and so does a number that stands for the phase already.
+    pub fn kept(&self, left: &Core) -> Core {
+        let kept = left.counted().below(self);
+        match self.phase() == left.phase() {
+            true => Core {
+                phase: self.phase,
+                ..kept
+            },
+            false => kept,
+        }
+    }
 }
 
 /// A station as a host keeps it.
@@ -150,13 +262,6 @@ pub struct Answer {
 }
 
 #[repr(C)]
-#[derive(Clone, Copy, Debug, PartialEq, Eq)]
-struct Outcome {
-    core: Core,
-    answer: Answer,
-}
-
-#[repr(C)]
 #[derive(Clone, Copy, Debug, Default, PartialEq, Eq)]
 pub struct Figure {
     pub kind: u8,
@@ -180,48 +285,49 @@ pub struct Quiet {
 }
 
 mod calls {
-    use super::{Core, Figure, Outcome, Quiet, Settings};
+    use super::{Answer, Core, Figure, Quiet, Settings};
 
     extern "C" {
         pub fn flnet_new(
+            core: *mut Core,
             listed: *mut bool,
             areas: *mut u16,
             watch: *mut u8,
             misses: *mut u8,
-        ) -> Core;
+        );
         pub fn flnet_start(
-            core: Core,
+            core: *mut Core,
             listed: *mut bool,
             areas: *mut u16,
             watch: *mut u8,
             misses: *mut u8,
             own: Settings,
-        ) -> Outcome;
+        ) -> Answer;
         pub fn flnet_stop(
-            core: Core,
+            core: *mut Core,
             listed: *mut bool,
             areas: *mut u16,
             watch: *mut u8,
             misses: *mut u8,
-        ) -> Outcome;
+        ) -> Answer;
         pub fn flnet_tick(
-            core: Core,
+            core: *mut Core,
             listed: *mut bool,
             areas: *mut u16,
             watch: *mut u8,
             misses: *mut u8,
-        ) -> Outcome;
+        ) -> Answer;
         pub fn flnet_ticks(
-            core: Core,
+            core: *mut Core,
             listed: *mut bool,
             areas: *mut u16,
             watch: *mut u8,
             misses: *mut u8,
             count: u32,
-        ) -> Outcome;
-        pub fn flnet_quiet(core: Core, listed: *const bool) -> Quiet;
+        ) -> Answer;
+        pub fn flnet_quiet(core: *const Core, listed: *const bool) -> Quiet;
         pub fn flnet_hear(
-            core: Core,
+            core: *mut Core,
             listed: *mut bool,
             areas: *mut u16,
             watch: *mut u8,
@@ -232,9 +338,9 @@ mod calls {
             memory_length: usize,
             assembly: *mut u8,
             assembly_length: usize,
-        ) -> Outcome;
+        ) -> Answer;
         pub fn flnet_ask(
-            core: Core,
+            core: *mut Core,
             listed: *mut bool,
             areas: *mut u16,
             watch: *mut u8,
@@ -245,47 +351,45 @@ mod calls {
             turn_length: usize,
             output: *mut u8,
             output_length: usize,
-        ) -> Outcome;
-        pub fn flnet_show(core: Core) -> Figure;
+        ) -> Answer;
+        pub fn flnet_show(core: *const Core) -> Figure;
     }
 }
 
-/// Makes a call with the station's core and list, keeps the core that it gives, and gives the
-/// answer.
+/// Makes a call with the station's core and list.
 macro_rules! call {
     ($name:ident, $station:ident $(, $argument:expr)*) => {{
         let Station { core, list } = $station;
-        // SAFETY: the list's arrays have the header's lengths, and each other pointer comes with
-        // its slice's length. What is written is borrowed by `&mut`, so that nothing overlaps.
-        let outcome = unsafe {
+        // SAFETY: the core and the list's arrays have the header's lengths, and each other pointer
+        // comes with its slice's length. What is written is borrowed by `&mut`, so that nothing
+        // overlaps.
+        unsafe {
             calls::$name(
-                *core,
+                core,
                 list.listed.as_mut_ptr(),
                 list.areas.as_mut_ptr(),
                 list.watch.as_mut_ptr(),
                 list.misses.as_mut_ptr(),
                 $($argument),*
             )
-        };
-        *core = outcome.core;
-        outcome.answer
+        }
     }};
 }
 
 impl Station {
     /// A station that was never started.
     pub fn new() -> Station {
-        let mut list = List::EMPTY;
-        // SAFETY: as for the other calls.
-        let core = unsafe {
-            calls::flnet_new(
-                list.listed.as_mut_ptr(),
-                list.areas.as_mut_ptr(),
-                list.watch.as_mut_ptr(),
-                list.misses.as_mut_ptr(),
-            )
+        let mut station = Station {
+            core: Core::default(),
+            list: List::EMPTY,
         };
-        Station { core, list }
+        station.renew();
+        station
+    }
+
+    /// Becomes a station that was never started.
+    pub fn renew(&mut self) {
+        call!(flnet_new, self)
     }
 
     pub fn start(&mut self, own: Settings) -> Answer {
@@ -305,8 +409,8 @@ impl Station {
     }
 
     pub fn quiet(&self) -> Quiet {
-        // SAFETY: the flags have the header's length and are only read.
-        unsafe { calls::flnet_quiet(self.core, self.list.listed.as_ptr()) }
+        // SAFETY: the core and the flags have the header's lengths and are only read.
+        unsafe { calls::flnet_quiet(&self.core, self.list.listed.as_ptr()) }
     }
 
     pub fn hear(&mut self, octets: &[u8], memory: &mut [u8], assembly: &mut [u8]) -> Answer {
@@ -336,8 +440,8 @@ impl Station {
     }
 
     pub fn show(&self) -> Figure {
-        // SAFETY: the struct is the header's, by value.
-        unsafe { calls::flnet_show(self.core) }
+        // SAFETY: the core has the header's length and is only read.
+        unsafe { calls::flnet_show(&self.core) }
     }
 }
 

@@ -7,11 +7,9 @@ pub trait Engine {
     fn start(&mut self, own: Settings) -> Answer;
     fn stop(&mut self) -> Answer;
     fn tick(&mut self) -> Answer;
-    /// So many ticks, one by one.
-    fn ticks(&mut self, count: u32) {
-        (0..count).for_each(|_| {
-            self.tick();
-        });
+    /// So many ticks, one by one, and the answer of the last.
+    fn ticks(&mut self, count: u32) -> Answer {
+        (0..count).fold(Answer::default(), |_, _| self.tick())
     }
     fn hear(&mut self, octets: &[u8], memory: &mut [u8], assembly: &mut [u8]) -> Answer;
     fn ask(&mut self, memory: &[u8], turn: &mut [u8], output: &mut [u8]) -> Answer;
@@ -33,8 +31,8 @@ impl Engine for Station {
     }
 
     /// In one call.
-    fn ticks(&mut self, count: u32) {
-        Station::ticks(self, count);
+    fn ticks(&mut self, count: u32) -> Answer {
+        Station::ticks(self, count)
     }
 
     fn hear(&mut self, octets: &[u8], memory: &mut [u8], assembly: &mut [u8]) -> Answer {

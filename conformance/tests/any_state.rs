@@ -1,10 +1,9 @@
-//! Calls at any value of the state, also one that no calls lead to: each is answered, and the same
-//! way twice.
+//! Calls at any value of the state, also one that no calls lead to: each is answered, in the same
+//! way with and without what stands above the low parts of the core's numbers, and leaves that as
+//! it is.
 
 use flnet_conformance::both::differences;
-use flnet_conformance::boundary::{
-    Answer, Areas, Core, Entry, Gathering, List, Panel, Part, Settings, Station,
-};
+use flnet_conformance::boundary::{Answer, Areas, Core, Entry, List, Part, Station};
 use flnet_conformance::call::{perform, Buffers, Call};
 use flnet_conformance::choices::Choices;
 use flnet_conformance::names::*;
@@ -42,17 +41,15 @@ fn any_entry(random: &mut Random, listed_percent: usize) -> Entry {
     }
 }
 
-fn any_settings(random: &mut Random) -> Settings {
-    Settings {
-        number: any_octet(random, &[0, 1, 2, 254, 255]),
-        areas: any_areas(random),
-        watch: any_octet(random, &[0, 1, 255]),
-    }
+/// Above the low parts: nothing, all ones, or anything.
+fn any_above(random: &mut Random) -> Core {
+    let above = random.pick(&[Some(0), Some(u32::MAX), None, None]);
+    Core::drawn(|| above.unwrap_or(random.number() as u32))
 }
 
 fn any_core(random: &mut Random) -> Core {
-    let own = any_settings(random);
-    let number = u32::from(own.number);
+    let number = any(random, &[0, 1, 2, 254, 255]) & 255;
+    let Areas { one, two } = any_areas(random);
     let times = [
         0,
         1,
@@ -68,25 +65,27 @@ fn any_core(random: &mut Random) -> Core {
         65_536,
         u32::MAX,
     ];
-    Core {
-        phase: any_octet(random, &[0, 1, 2, 3, 4, 4, 4, 4, 5]),
-        own,
+    let low = Core {
+        phase: any(random, &[0, 1, 2, 3, 4, 4, 4, 4, 5]),
+        number,
+        address_one: one.address.into(),
+        size_one: one.size.into(),
+        address_two: two.address.into(),
+        size_two: two.size.into(),
+        watch: any(random, &[0, 1, 255]),
         elapsed: any(random, &times),
         waited: any(random, &times),
-        rounds: any_octet(random, &[0, 2, 3, 255]),
-        sent: random.chance(50),
-        view: any_octet(random, &[number, number, 0, 1, 254, 255]),
-        block: any_octet(random, &[0, 0, 0, 1, 16, 17, 255]),
-        gathering: Gathering {
-            source: any_octet(random, &[0, 1, 2, 255]),
-            blocks: any_octet(random, &[0, 1, 16, 17, 255]),
-        },
-        panel: Panel {
-            takings: any_octet(random, &[0, 1, 2, 3, 255]),
-            running: any(random, &times),
-            gap: any(random, &times),
-        },
-    }
+        rounds: any(random, &[0, 2, 3, 255]),
+        sent: random.number() as u32,
+        view: any(random, &[number, number, 0, 1, 254, 255]),
+        block: any(random, &[0, 0, 0, 1, 16, 17, 255]),
+        source: any(random, &[0, 1, 2, 255]),
+        blocks: any(random, &[0, 1, 16, 17, 255]),
+        takings: any(random, &[0, 1, 2, 3, 255]),
+        running: any(random, &times),
+        gap: any(random, &times),
+    };
+    low.below(&any_above(random))
 }
 
 fn any_list(random: &mut Random) -> List {
@@ -123,24 +122,34 @@ fn any_call(choices: &mut Choices, station: &Station) -> Call {
     }
 }
 
-/// The state as it counts: a number that is no phase's is off.
-fn counted(mut station: Station) -> Station {
-    if station.core.phase > PARTICIPATING {
-        station.core.phase = OFF;
+/// The state as it counts.
+fn counted(station: &Station) -> Station {
+    Station {
+        core: station.core.counted(),
+        list: station.list,
     }
-    station
 }
 
-/// A refused call leaves the state, but that 6 turns off a station that does not participate.
+/// The state that a call leaves by what it leaves of the state as it counts.
+fn kept(before: &Station, left: &Station) -> Station {
+    Station {
+        core: before.core.kept(&left.core),
+        list: left.list,
+    }
+}
+
+/// A refused call leaves the state, each number and all of it, but that 6 turns off a station that
+/// does not participate.
 fn check_refused(before: &Station, after: &Station, answer: &Answer) -> String {
-    let keeps = answer.refusal != 6 || before.core.phase == PARTICIPATING;
+    let keeps = answer.refusal != 6 || before.core.phase() == PARTICIPATING;
     match answer.word == WORD_REFUSED && keeps {
         true => differences(before, after),
         false => String::new(),
     }
 }
 
-/// The same call at a state and at what the state counts as: the same answer, state and buffers.
+/// The same call at a state and at the state as it counts: the same answer, the same buffers, and
+/// the same state, but that in the first what does not count stays.
 #[test]
 fn any_state_is_answered_and_always_the_same() {
     let mut random = Random::new(6553);
@@ -150,17 +159,35 @@ fn any_state_is_answered_and_always_the_same() {
     for round in 0..60_000 {
         let station = any_station(&mut choices.random);
         let call = any_call(&mut choices, &station);
-        let (mut first, mut second) = (station, counted(station));
+        let (mut first, mut second) = (station, counted(&station));
         let before = once.clone();
         let answer = perform(&mut first, &call, &mut once);
         let repeated = perform(&mut second, &call, &mut again);
-        let mut wrong = differences(&first, &second);
-        wrong += &check_refused(&counted(station), &first, &answer);
+        let mut wrong = differences(&kept(&station, &second), &first);
+        wrong += &differences(&counted(&second), &second);
+        wrong += &check_refused(&station, &first, &answer);
         let what = || format!("round {round}, {}: {answer:?}\n{wrong}", call.describe());
         assert!(answer == repeated && wrong.is_empty(), "{}", what());
-        assert!(once == again && first.show() == second.show(), "{}", what());
+        let same_shown = first.show() == second.show() && first.quiet() == second.quiet();
+        assert!(once == again && same_shown, "{}", what());
         let lent = before.named().into_iter().zip(once.named()).skip(1);
         let untouched = lent.into_iter().all(|(before, after)| before == after);
         assert!(untouched || answer.word != WORD_REFUSED, "{}", what());
+    }
+}
+
+/// A station made anew of any state is one of zeros, also above what counts, and its list is empty.
+#[test]
+fn any_state_is_made_anew() {
+    let mut random = Random::new(1479);
+    for _ in 0..1_000 {
+        let mut station = any_station(&mut random);
+        station.renew();
+        let zeros = Station {
+            core: Core::default(),
+            list: List::EMPTY,
+        };
+        let wrong = differences(&zeros, &station);
+        assert!(wrong.is_empty(), "{wrong}");
     }
 }

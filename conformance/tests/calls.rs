@@ -93,17 +93,17 @@ impl Driver<'_> {
     fn show(&mut self) {
         let figure = self.both.show();
         self.coverage
-            .count_figure(self.both.state().core.phase, &figure);
+            .count_figure(self.both.state().core.phase(), &figure);
         self.both.renew_model();
     }
 
     /// Ticks without a taking until the gap is at the end of what the panel shows, then a taking.
     fn long_gap(&mut self) {
         let target = self.choices.random.pick(&[65_535, 65_536]);
-        let mut ticked = self.both.state().core.panel.running;
-        while ticked < target && self.both.state().core.phase == PARTICIPATING {
+        let mut ticked = self.both.state().core.running;
+        while ticked < target && self.both.state().core.phase() == PARTICIPATING {
             let state = self.both.state();
-            let until_watch = waits::watch(state.core.own.watch) - state.core.elapsed;
+            let until_watch = waits::watch(state.core.own().watch) - state.core.elapsed;
             let count = (target - ticked).min(until_watch.max(2) - 1);
             self.ticks(count);
             ticked += count;
@@ -127,19 +127,20 @@ impl Driver<'_> {
     /// A token to us from the station in view; a holder that is alone passes to itself.
     fn take(&mut self) {
         let state = self.both.state();
-        let entry = state.list.entry(state.core.view);
+        let entry = state.list.entry(state.core.view());
         if entry.listed {
             let frame = Frame::cyclic(
                 Code::Token,
-                state.core.view,
-                state.core.own.number,
+                state.core.view(),
+                state.core.own().number,
                 entry.areas.into(),
                 1,
             );
             let octets = frame.octets(&mut self.choices.random);
             self.call(&Call::hear(octets));
-        } else if state.core.view == state.core.own.number {
-            while self.call(&Call::ask()).word == WORD_FRAME && self.both.state().core.block > 0 {}
+        } else if state.core.view() == state.core.own().number {
+            while self.call(&Call::ask()).word == WORD_FRAME && self.both.state().core.block() > 0 {
+            }
         }
         self.show();
     }

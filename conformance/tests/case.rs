@@ -33,7 +33,7 @@ impl Case {
     }
 
     pub fn view(&self) -> u8 {
-        self.both.state().core.view
+        self.both.state().core.view()
     }
 
     pub fn panel(&self) -> String {
@@ -66,7 +66,7 @@ pub fn participant(own: Settings, others: &[(u8, Areas)]) -> Case {
         assert_eq!(case.hear(Frame::request(number, areas)).word, WORD_DONE);
     }
     case.both.ticks(waits::ACCEPTANCE);
-    assert_eq!(case.both.state().core.phase, PARTICIPATING);
+    assert_eq!(case.both.state().core.phase(), PARTICIPATING);
     case
 }
 

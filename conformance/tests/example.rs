@@ -30,7 +30,16 @@ fn try_example(compiler: &str, standard: &str, language: &str) -> std::io::Resul
     let program = repository().join(format!("target/ring-example-{language}"));
     let out = program.to_str().expect("a path in UTF-8");
     let library = "target/staticlib/libflnet_station.a";
-    let sources = ["-x", language, "examples/ring.c", "-x", "none", library, "-o", out];
+    let sources = [
+        "-x",
+        language,
+        "examples/ring.c",
+        "-x",
+        "none",
+        library,
+        "-o",
+        out,
+    ];
     check(&compile(compiler, standard, &sources)?);
     let run = Command::new(&program).output().expect("the example");
     check(&run);

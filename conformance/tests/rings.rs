@@ -88,7 +88,7 @@ fn check_premises(ring: &Ring, sender: usize, written: Header) {
             "station {} did not send or hear the token frame",
             seat.number()
         );
-        assert_eq!(seat.station.core.own, seat.own);
+        assert_eq!(seat.station.core.own(), seat.own);
         assert_eq!(seat.own.watch, ring.seats[0].own.watch);
         assert!(
             ring.is_complete(at),
@@ -96,7 +96,7 @@ fn check_premises(ring: &Ring, sender: usize, written: Header) {
             seat.number()
         );
         assert!(
-            numbers.contains(&seat.station.core.view),
+            numbers.contains(&seat.station.core.view()),
             "the view of station {}",
             seat.number()
         );

@@ -36,7 +36,10 @@ fn listening_and_trigger() {
         // Nobody else: back to listening.
         case.both.ticks(12_000 - 40 * u32::from(number));
         assert_eq!(
-            (case.both.state().core.phase, case.both.state().core.elapsed),
+            (
+                case.both.state().core.phase(),
+                case.both.state().core.elapsed
+            ),
             (LISTENING, 0)
         );
     }
@@ -54,7 +57,10 @@ fn joining_by_three_rounds() {
     case.both.ticks(1000);
     assert_eq!(refused(case.both.ask()), 10);
     assert_eq!(
-        (case.both.state().core.phase, case.both.state().core.rounds),
+        (
+            case.both.state().core.phase(),
+            case.both.state().core.rounds()
+        ),
         (JOINING, 2)
     );
     case.hear(Frame::token(2, 1));
@@ -66,7 +72,7 @@ fn joining_by_three_rounds() {
     case.both.ticks(1);
     assert_eq!(word(&case.sent(), at::TCD), 65002);
     let state = case.both.state();
-    assert_eq!((state.core.phase, state.core.view), (PARTICIPATING, 4));
+    assert_eq!((state.core.phase(), state.core.view()), (PARTICIPATING, 4));
     assert!(
         state.list.entry(1).listed && state.list.entry(2).listed && !state.list.entry(9).listed
     );
@@ -80,9 +86,9 @@ fn joining_gives_up() {
     case.both.ticks(29_999);
     case.hear(Frame::token(2, 1));
     case.both.ticks(29_999);
-    assert_eq!(case.both.state().core.phase, JOINING);
+    assert_eq!(case.both.state().core.phase(), JOINING);
     case.both.ticks(1);
-    assert_eq!(case.both.state().core.phase, LISTENING);
+    assert_eq!(case.both.state().core.phase(), LISTENING);
     assert!(case.both.state().list == List::EMPTY);
 }
 
@@ -122,10 +128,10 @@ fn overlapping_areas() {
         Areas::new(Part::new(3, 4), Part::new(0, 0)),
     ));
     case.both.ticks(199);
-    assert_eq!(case.both.state().core.own.areas.one.size, 4);
+    assert_eq!(case.both.state().core.own().areas.one.size, 4);
     case.both.ticks(1);
     assert_eq!(
-        case.both.state().core.own.areas,
+        case.both.state().core.own().areas,
         Areas::new(Part::new(0, 0), Part::new(0, 0)).into()
     );
     assert_eq!(case.both.state().list.entry(2).areas.one.size, 4);
@@ -236,10 +242,13 @@ fn off_and_taken() {
     );
     // Our own number before we participate turns us off, which keeps the number alone.
     assert_eq!(refused(case.hear(Frame::trigger(2))), 6);
-    assert_eq!(case.both.state().core.phase, OFF);
-    assert_eq!(case.both.state().core.own, settings(2, Areas::default(), 0));
+    assert_eq!(case.both.state().core.phase(), OFF);
+    assert_eq!(
+        case.both.state().core.own(),
+        settings(2, Areas::default(), 0)
+    );
     assert_eq!(case.hear(Frame::trigger(2)).word, WORD_OFF);
     let mut case = participant(settings(1, Areas::default(), 10), &without_areas(&[2]));
     assert_eq!(refused(case.hear(Frame::token(1, 2))), 6);
-    assert_eq!(case.both.state().core.phase, PARTICIPATING);
+    assert_eq!(case.both.state().core.phase(), PARTICIPATING);
 }

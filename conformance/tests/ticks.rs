@@ -29,10 +29,6 @@ fn ticks_one_by_one(station: &mut Station, count: u32) -> Answer {
 
 fn check_ticks(station: &Station, count: u32) {
     let (mut many, mut one_by_one) = (*station, *station);
-    // A number that is no phase's comes back as off, whatever the count.
-    if one_by_one.core.phase > PARTICIPATING {
-        one_by_one.core.phase = OFF;
-    }
     let answer = many.ticks(count);
     let expected = ticks_one_by_one(&mut one_by_one, count);
     let wrong = differences(&one_by_one, &many);
@@ -64,8 +60,8 @@ fn model_quiet(station: &Station, most: u32) -> Option<u32> {
     (0..most).find(|_| {
         model.tick();
         let after = Core::from(&model);
-        let news = after.phase != before.phase
-            || after.view != before.view
+        let news = after.phase() != before.phase()
+            || after.view() != before.view()
             || is_due(&after) && !is_due(&before);
         before = after;
         news
@@ -112,7 +108,7 @@ fn for_states(seed: u64, calls: u32, mut check: impl FnMut(&mut Random, &Station
             }
         }
         // Most calls find a participant.
-        let often = match both.state().core.phase {
+        let often = match both.state().core.phase() {
             PARTICIPATING => 2,
             _ => 40,
         };
@@ -125,7 +121,7 @@ fn for_states(seed: u64, calls: u32, mut check: impl FnMut(&mut Random, &Station
 /// Counts around the next end, around the watch, and others.
 fn count_for(random: &mut Random, station: &Station) -> u32 {
     let next = station.quiet().ticks;
-    let watch = waits::watch(station.core.own.watch);
+    let watch = waits::watch(station.core.own().watch);
     let some = random.below(5000) as u32;
     random.pick(&[
         0,
@@ -144,7 +140,7 @@ fn count_for(random: &mut Random, station: &Station) -> u32 {
 fn many_ticks_are_the_ticks_one_by_one() {
     let mut phases = [0u32; 5];
     for_states(14, 40_000, |random, station| {
-        phases[usize::from(station.core.phase)] += 1;
+        phases[usize::from(station.core.phase())] += 1;
         let count = count_for(random, station);
         check_ticks(station, count);
         check_model(station, count);
@@ -157,7 +153,7 @@ fn quiet_ticks_are_those_of_the_model() {
     let (mut ending, mut endless) = ([0u32; 5], [0u32; 5]);
     for_states(41, 40_000, |_, station| {
         check_quiet(station);
-        let phase = usize::from(station.core.phase);
+        let phase = usize::from(station.core.phase());
         match station.quiet().ends {
             true => ending[phase] += 1,
             false => endless[phase] += 1,
@@ -192,8 +188,8 @@ fn many_ticks_and_quiet_ones_at_any_state() {
             before.ticks(count);
             let mut after = before;
             after.tick();
-            after.core.phase != before.core.phase
-                || after.core.view != before.core.view
+            after.core.phase() != before.core.phase()
+                || after.core.view() != before.core.view()
                 || has_frame(&after, &mut lent) && !has_frame(&before, &mut lent)
         };
         let quiet = station.quiet();
@@ -248,7 +244,7 @@ fn the_longest_sleep() {
     assert_eq!(station.quiet(), Quiet::default());
 
     let mut lonely = alone();
-    assert!(lonely.core.phase == PARTICIPATING && lonely.core.view == 3);
+    assert!(lonely.core.phase() == PARTICIPATING && lonely.core.view() == 3);
     assert_eq!(lonely.quiet(), Quiet::default());
     let mut shorter = lonely;
     lonely.ticks(u32::MAX);

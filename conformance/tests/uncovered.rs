@@ -100,7 +100,7 @@ fn of_two_that_join_together_the_later_never_lists_the_earlier() {
     let mut both = false;
     for _ in 0..UP_TICKS {
         step(&mut ring, |_, _| None);
-        let phases = [1, 2].map(|at| ring.seats[at].station.core.phase);
+        let phases = [1, 2].map(|at| ring.seats[at].station.core.phase());
         if !both && phases == [PARTICIPATING; 2] {
             both = true;
             assert!(lists(&ring, 1, 3) && lists(&ring, 0, 2) && lists(&ring, 0, 3));

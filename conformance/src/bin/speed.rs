@@ -1,6 +1,12 @@
 //! How long the calls take: the proved station and the model side by side, with the same inputs.
+//!
+//! Both are called, in the same way, and the whole of each answer is used, as a host does. The
+//! library's calls cannot become part of the measuring loop, so the model's are kept out of it too
+//! (`Called`): else the compiler would spare the model alone the call, and those parts of an answer
+//! that nobody looks at. Of a frame that was heard both tell; of one that was written only the proved
+//! station does, whose times have that in them.
 
-use flnet_conformance::boundary::Station;
+use flnet_conformance::boundary::{self, Answer, Figure, Station};
 use flnet_conformance::engine::Engine;
 use flnet_conformance::frames::Frame;
 use flnet_conformance::model::frame::{at, Code};
@@ -18,6 +24,71 @@ const NANOSECOND: Unit = ("ns", 1.0);
 const MICROSECOND: Unit = ("us", 1000.0);
 /// Words of each station of a ring: 64 octets.
 const RING_WORDS: u16 = 32;
+
+/// The model's calls, made as C makes them.
+mod calls {
+    // A slice goes as a pointer and a length, here too.
+    #![allow(improper_ctypes_definitions)]
+
+    use flnet_conformance::boundary::Answer;
+    use flnet_conformance::engine::Engine;
+    use flnet_conformance::model::Model;
+
+    #[inline(never)]
+    pub extern "C" fn tick(model: &mut Model) -> Answer {
+        Engine::tick(model)
+    }
+
+    #[inline(never)]
+    pub extern "C" fn hear(
+        model: &mut Model,
+        octets: &[u8],
+        memory: &mut [u8],
+        assembly: &mut [u8],
+    ) -> Answer {
+        Engine::hear(model, octets, memory, assembly)
+    }
+
+    #[inline(never)]
+    pub extern "C" fn ask(
+        model: &mut Model,
+        memory: &[u8],
+        turn: &mut [u8],
+        output: &mut [u8],
+    ) -> Answer {
+        Engine::ask(model, memory, turn, output)
+    }
+}
+
+/// The model behind calls like those of the library. It has none for many ticks: each is a call.
+#[derive(Clone, Default)]
+struct Called(Model);
+
+impl Engine for Called {
+    fn start(&mut self, own: boundary::Settings) -> Answer {
+        Engine::start(&mut self.0, own)
+    }
+
+    fn stop(&mut self) -> Answer {
+        Engine::stop(&mut self.0)
+    }
+
+    fn tick(&mut self) -> Answer {
+        calls::tick(&mut self.0)
+    }
+
+    fn hear(&mut self, octets: &[u8], memory: &mut [u8], assembly: &mut [u8]) -> Answer {
+        calls::hear(&mut self.0, octets, memory, assembly)
+    }
+
+    fn ask(&mut self, memory: &[u8], turn: &mut [u8], output: &mut [u8]) -> Answer {
+        calls::ask(&mut self.0, memory, turn, output)
+    }
+
+    fn show(&self) -> Figure {
+        Engine::show(&self.0)
+    }
+}
 
 /// A station with the buffers that its host lends.
 struct Host<E> {
@@ -57,29 +128,26 @@ impl<E: Engine + Default> Host<E> {
         made
     }
 
-    // The state is hidden from the optimizer at each call, as it is where calls come one by one.
+    // The state is hidden from the optimizer at each call, as it is where calls come one by one, and
+    // so is what is done with the answer.
     fn tick(&mut self) {
-        black_box(&mut self.station).tick();
+        black_box(black_box(&mut self.station).tick());
     }
 
     fn ticks(&mut self, count: u32) {
-        black_box(&mut self.station).ticks(black_box(count));
+        black_box(black_box(&mut self.station).ticks(black_box(count)));
     }
 
     /// What became of the data.
     fn hear(&mut self, octets: &[u8]) -> u8 {
         let station = black_box(&mut self.station);
-        station
-            .hear(octets, &mut self.memory, &mut self.assembly)
-            .data
+        black_box(station.hear(octets, &mut self.memory, &mut self.assembly)).data
     }
 
     /// The octets of the frame that stands at the front of the output.
     fn ask(&mut self) -> usize {
         let station = black_box(&mut self.station);
-        station
-            .ask(&self.memory, &mut self.turn, &mut self.output)
-            .octets
+        black_box(station.ask(&self.memory, &mut self.turn, &mut self.output)).octets
     }
 }
 
@@ -143,12 +211,12 @@ fn ticks_alone<E: Engine + Default>() -> impl FnMut() -> f64 {
 fn quiet() -> (impl FnMut() -> f64, impl FnMut() -> f64) {
     let watch = waits::watch(255);
     let station = Host::<Station>::participant(share(1, 512), &[share(2, 512)]).station;
-    let model = Host::<Model>::participant(share(1, 512), &[share(2, 512)]).station;
+    let model = Host::<Called>::participant(share(1, 512), &[share(2, 512)]).station;
     let proved = measurement(16_000, 1, move || {
-        assert_eq!(black_box(&station).quiet().ticks, watch - 1)
+        assert_eq!(black_box(black_box(&station).quiet()).ticks, watch - 1)
     });
     let stepped = measurement(200, 1, move || {
-        black_box(&model).clone().ticks(watch);
+        black_box(black_box(&model).clone().ticks(watch));
     });
     (proved, stepped)
 }
@@ -231,7 +299,9 @@ fn ask_refused<E: Engine + Default>() -> impl FnMut() -> f64 {
 /// A frame that brings no data, at a participant that lists station 2.
 fn hear_plain<E: Engine + Default>(frame: Vec<u8>) -> impl FnMut() -> f64 {
     let mut station = Host::<E>::participant(share(9, 512), &[share(2, 512)]);
-    measurement(16_000, 1, move || assert_eq!(station.hear(black_box(&frame)), 0))
+    measurement(16_000, 1, move || {
+        assert_eq!(station.hear(black_box(&frame)), 0)
+    })
 }
 
 /// Such frames: 1088 octets that are refused, then a trigger, and a request that is listed again.
@@ -345,24 +415,24 @@ fn main() {
         "{:<42} unit {:>10} {:>10} {:>7}",
         "call", "proved", "model", "ratio"
     );
-    line("tick", NANOSECOND, tick::<Station>(), tick::<Model>());
+    line("tick", NANOSECOND, tick::<Station>(), tick::<Called>());
     line(
         "tick of a station that listens",
         NANOSECOND,
         tick_listening::<Station>(),
-        tick_listening::<Model>(),
+        tick_listening::<Called>(),
     );
     line(
         "1000 ticks of a station that listens",
         NANOSECOND,
         ticks_listening::<Station>(),
-        ticks_listening::<Model>(),
+        ticks_listening::<Called>(),
     );
     line(
         "3000 ticks, alone in the list",
         NANOSECOND,
         ticks_alone::<Station>(),
-        ticks_alone::<Model>(),
+        ticks_alone::<Called>(),
     );
     let (proved, stepped) = quiet();
     line("how long it is quiet", NANOSECOND, proved, stepped);
@@ -370,58 +440,58 @@ fn main() {
         "ask with nothing due",
         NANOSECOND,
         ask_refused::<Station>(),
-        ask_refused::<Model>(),
+        ask_refused::<Called>(),
     );
     line(
         "ten ticks, the last ends the watch",
         NANOSECOND,
         tick_watch::<Station>(),
-        tick_watch::<Model>(),
+        tick_watch::<Called>(),
     );
     for (what, frame) in plain_frames() {
         line(
             what,
             NANOSECOND,
             hear_plain::<Station>(frame.clone()),
-            hear_plain::<Model>(frame),
+            hear_plain::<Called>(frame),
         );
     }
     line(
         "hear a block in joining",
         NANOSECOND,
         hear_joining::<Station>(),
-        hear_joining::<Model>(),
+        hear_joining::<Called>(),
     );
     line(
         "hear a token frame, 1024 octets written",
         NANOSECOND,
         hear_token::<Station>(),
-        hear_token::<Model>(),
+        hear_token::<Called>(),
     );
     line(
         "hear a block, 1024 octets kept",
         NANOSECOND,
         hear_block::<Station>(),
-        hear_block::<Model>(),
+        hear_block::<Called>(),
     );
     line(
         "ask for a block, 1024 octets",
         NANOSECOND,
         ask_block::<Station>(),
-        ask_block::<Model>(),
+        ask_block::<Called>(),
     );
     line(
         "ask for a block, alone in the list",
         NANOSECOND,
         ask_alone::<Station>(),
-        ask_alone::<Model>(),
+        ask_alone::<Called>(),
     );
     for stations in [6, 64, 254] {
         line(
             &format!("one turn of a ring of {stations}, 64 octets each"),
             MICROSECOND,
             ring::<Station>(stations),
-            ring::<Model>(stations),
+            ring::<Called>(stations),
         );
     }
 }

@@ -6,28 +6,28 @@ use crate::names::*;
 
 /// Whether a frame is due.
 pub fn is_due(core: &Core) -> bool {
-    let request = waits::until_request(core.own.number);
-    match core.phase {
-        LISTENING => core.elapsed == waits::until_trigger(core.own.number),
-        STARTUP => core.elapsed >= request && !core.sent,
-        JOINING => core.rounds == 3 && core.waited == request,
-        PARTICIPATING => core.view == core.own.number,
+    let request = waits::until_request(core.own().number);
+    match core.phase() {
+        LISTENING => core.elapsed == waits::until_trigger(core.own().number),
+        STARTUP => core.elapsed >= request && !core.sent(),
+        JOINING => core.rounds() == 3 && core.waited == request,
+        PARTICIPATING => core.view() == core.own().number,
         _ => false,
     }
 }
 
 /// Ticks until the next thing that time brings in this state.
 pub fn until_next(core: &Core) -> u32 {
-    let request = waits::until_request(core.own.number);
-    let end = match core.phase {
-        LISTENING => waits::until_trigger(core.own.number),
+    let request = waits::until_request(core.own().number);
+    let end = match core.phase() {
+        LISTENING => waits::until_trigger(core.own().number),
         STARTUP if core.elapsed < request => request,
         STARTUP => waits::ACCEPTANCE,
-        JOINING if core.rounds == 3 && core.waited < request => {
+        JOINING if core.rounds() == 3 && core.waited < request => {
             core.elapsed + request - core.waited
         }
         JOINING => waits::TOKEN_DETECTION,
-        PARTICIPATING => waits::watch(core.own.watch),
+        PARTICIPATING => waits::watch(core.own().watch),
         _ => 1,
     };
     end.saturating_sub(core.elapsed).max(1)

@@ -10,9 +10,9 @@ use crate::names::*;
 impl Choices {
     /// A right frame that gets the station on.
     pub fn frame(&mut self, state: &Station) -> Frame {
-        let goes_on = state.core.gathering.blocks > 0 && self.random.chance(self.steady);
+        let goes_on = state.core.blocks() > 0 && self.random.chance(self.steady);
         let mut frame = match goes_on {
-            true => self.cyclic(state, state.core.gathering.source),
+            true => self.cyclic(state, state.core.source()),
             false => self.any_frame(state),
         };
         frame.watch = self.random.octet();
@@ -24,7 +24,7 @@ impl Choices {
 
     fn any_frame(&mut self, state: &Station) -> Frame {
         // Of a hundred frames; the rest are triggers.
-        let (cyclics, requests) = match state.core.phase {
+        let (cyclics, requests) = match state.core.phase() {
             LISTENING => (45, 15),
             STARTUP => (20, 75),
             JOINING => (90, 5),
@@ -45,7 +45,7 @@ impl Choices {
     pub fn spoiled(&mut self, state: &Station) -> Frame {
         let mut frame = self.frame(state);
         for _ in 0..self.random.pick(&[1, 1, 1, 2, 3]) {
-            frame.spoil(&mut self.random, state.core.own.number);
+            frame.spoil(&mut self.random, state.core.own().number);
         }
         frame
     }
@@ -54,13 +54,13 @@ impl Choices {
     fn source(&mut self, state: &Station) -> u8 {
         let listed: Vec<u8> = state.list.numbers().collect();
         let source = match self.random.below(100) {
-            0..=39 if state.list.entry(state.core.view).listed => state.core.view,
+            0..=39 if state.list.entry(state.core.view()).listed => state.core.view(),
             40..=94 if !listed.is_empty() => self.random.pick(&listed),
             _ => self.number(),
         };
         // Our own number is left to the spoiled frames, since it ends everything before we
         // participate.
-        match source == state.core.own.number {
+        match source == state.core.own().number {
             true => source % 254 + 1,
             false => source,
         }
@@ -69,7 +69,7 @@ impl Choices {
     fn destination(&mut self, state: &Station) -> u8 {
         let listed: Vec<u8> = state.list.numbers().collect();
         match self.random.below(10) {
-            0..=2 if state.core.phase >= JOINING => state.core.own.number,
+            0..=2 if state.core.phase() >= JOINING => state.core.own().number,
             0..=8 if !listed.is_empty() => self.random.pick(&listed),
             _ => self.number(),
         }
@@ -83,8 +83,8 @@ impl Choices {
             false => self.areas(source),
         };
         let blocks = areas.blocks();
-        let next = match state.core.gathering.source == source {
-            true => state.core.gathering.blocks.saturating_add(1),
+        let next = match state.core.source() == source {
+            true => state.core.blocks().saturating_add(1),
             false => 1,
         };
         let block = match next <= blocks && self.random.chance(self.steady.max(80)) {
@@ -92,7 +92,7 @@ impl Choices {
             false => self.random.between(1, usize::from(blocks)) as u8,
         };
         // Mostly, as stations do, the token goes with the last block. Ring startup ends by it.
-        let has_token = match state.core.phase {
+        let has_token = match state.core.phase() {
             STARTUP => self.random.chance(15),
             _ if self.random.chance(60) => block == blocks,
             _ => self.random.chance(67),

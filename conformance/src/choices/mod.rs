@@ -86,7 +86,7 @@ impl Choices {
     }
 
     pub fn action(&mut self, state: &Station) -> Action {
-        let asks = match state.core.phase {
+        let asks = match state.core.phase() {
             PARTICIPATING => self.steady / 2,
             LISTENING => 30,
             _ => 45,
@@ -94,7 +94,7 @@ impl Choices {
         if is_due(&state.core) && self.random.chance(asks) {
             return Action::Ask;
         }
-        let weights = &WEIGHTS[usize::from(state.core.phase.min(PARTICIPATING))];
+        let weights = &WEIGHTS[usize::from(state.core.phase())];
         let mut drawn = self.random.below(weights.iter().sum());
         for (action, &weight) in ACTIONS.iter().zip(weights) {
             if drawn < weight {
@@ -145,12 +145,12 @@ impl Choices {
             2..=3 => self.random.between(1, until as usize) as u32,
             // The token detection wait of one who joins is let end seldom: it has three rounds to
             // hear.
-            4..=9 if state.core.phase != JOINING || until < 10_000 || self.random.chance(10) => {
+            4..=9 if state.core.phase() != JOINING || until < 10_000 || self.random.chance(10) => {
                 until
             }
-            10 if state.core.phase == STARTUP => waits::ACCEPTANCE - state.core.elapsed,
-            10 if state.core.phase == PARTICIPATING => {
-                until + rounds.min(30) * waits::watch(state.core.own.watch).min(200)
+            10 if state.core.phase() == STARTUP => waits::ACCEPTANCE - state.core.elapsed,
+            10 if state.core.phase() == PARTICIPATING => {
+                until + rounds.min(30) * waits::watch(state.core.own().watch).min(200)
             }
             _ => self.random.between(1, 5) as u32,
         }

@@ -106,12 +106,12 @@ impl Coverage {
     }
 
     pub fn count(&mut self, step: &Step) {
-        let phase = usize::from(step.before.core.phase);
+        let phase = usize::from(step.before.core.phase());
         self.answers[call_index(step.call)][phase][kind(step.answer)] += 1;
         // Most ticks only count.
         let quiet = step.ticks()
             && step.after.core.elapsed != 0
-            && step.before.core.own == step.after.core.own;
+            && step.before.core.own() == step.after.core.own();
         if quiet {
             return;
         }

@@ -16,7 +16,7 @@ pub struct Step<'a> {
 
 impl Step<'_> {
     fn goes(&self, from: u8, to: u8) -> bool {
-        self.before.core.phase == from && self.after.core.phase == to
+        self.before.core.phase() == from && self.after.core.phase() == to
     }
 
     fn stays(&self) -> bool {
@@ -48,11 +48,11 @@ impl Step<'_> {
     }
 
     fn held(&self) -> bool {
-        self.before.core.view == self.before.core.own.number
+        self.before.core.view() == self.before.core.own().number
     }
 
     fn holds(&self) -> bool {
-        self.after.core.view == self.after.core.own.number
+        self.after.core.view() == self.after.core.own().number
     }
 
     fn written(&self) -> bool {
@@ -60,7 +60,7 @@ impl Step<'_> {
     }
 
     fn strikes(&self) -> bool {
-        let view = self.before.core.view;
+        let view = self.before.core.view();
         self.stays()
             && self.ticks()
             && self.before.list.entry(view).listed
@@ -68,7 +68,7 @@ impl Step<'_> {
     }
 
     fn drops_gathered(&self) -> bool {
-        self.before.core.gathering.blocks > 0 && self.after.core.gathering.blocks == 0
+        self.before.core.blocks() > 0 && self.after.core.blocks() == 0
     }
 
     fn ends_watch(&self) -> bool {
@@ -90,9 +90,9 @@ impl Step<'_> {
     }
 
     fn gap_becomes(&self, gap: u32) -> bool {
-        self.after.core.panel.takings == 2
-            && self.after.core.panel.gap == gap
-            && self.before.core.panel.running >= gap - 1
+        self.after.core.takings() == 2
+            && self.after.core.gap == gap
+            && self.before.core.running >= gap - 1
     }
 }
 
@@ -106,22 +106,22 @@ pub const NOTED: [Noted; 36] = [
     ("trigger heard while ours is due", |s| {
         s.goes(LISTENING, STARTUP)
             && !s.asks()
-            && s.before.core.elapsed == waits::until_trigger(s.before.core.own.number)
+            && s.before.core.elapsed == waits::until_trigger(s.before.core.own().number)
     }),
     ("token heard in listening", |s| s.goes(LISTENING, JOINING)),
     ("token heard while our trigger is due", |s| {
         s.goes(LISTENING, JOINING)
-            && s.before.core.elapsed == waits::until_trigger(s.before.core.own.number)
+            && s.before.core.elapsed == waits::until_trigger(s.before.core.own().number)
     }),
     ("token heard in ring startup", |s| s.goes(STARTUP, JOINING)),
     ("ring startup ends with nobody else", |s| {
         s.goes(STARTUP, LISTENING)
     }),
     ("ring startup ends, our request sent", |s| {
-        s.goes(STARTUP, PARTICIPATING) && s.before.core.sent
+        s.goes(STARTUP, PARTICIPATING) && s.before.core.sent()
     }),
     ("ring startup ends, our request lapses", |s| {
-        s.goes(STARTUP, PARTICIPATING) && !s.before.core.sent
+        s.goes(STARTUP, PARTICIPATING) && !s.before.core.sent()
     }),
     ("joining ends for want of a token", |s| {
         s.goes(JOINING, LISTENING)
@@ -132,16 +132,16 @@ pub const NOTED: [Noted; 36] = [
     ("joining ends, a stranger in view", |s| {
         s.goes(JOINING, PARTICIPATING)
             && !s.holds()
-            && !s.after.list.entry(s.after.core.view).listed
+            && !s.after.list.entry(s.after.core.view()).listed
     }),
     ("third round ends", |s| {
-        s.goes(JOINING, JOINING) && s.before.core.rounds == 2 && s.after.core.rounds == 3
+        s.goes(JOINING, JOINING) && s.before.core.rounds() == 2 && s.after.core.rounds() == 3
     }),
     ("cyclic frame after the third round", |s| {
-        s.goes(JOINING, JOINING) && s.before.core.rounds == 3 && s.heard().is_some()
+        s.goes(JOINING, JOINING) && s.before.core.rounds() == 3 && s.heard().is_some()
     }),
     ("our sizes become 0", |s| {
-        s.ticks() && s.before.core.own.areas != s.after.core.own.areas
+        s.ticks() && s.before.core.own().areas != s.after.core.own().areas
     }),
     ("listed without areas for an overlap", |s| s.crowded()),
     ("listed again by a participant", |s| {
@@ -168,7 +168,7 @@ pub const NOTED: [Noted; 36] = [
         s.strikes() && s.drops_gathered()
     }),
     ("watch ends, a stranger in view", |s| {
-        s.ends_watch() && !s.held() && !s.before.list.entry(s.before.core.view).listed
+        s.ends_watch() && !s.held() && !s.before.list.entry(s.before.core.view()).listed
     }),
     ("watch ends, token taken", |s| {
         s.ends_watch() && !s.held() && s.holds()
@@ -180,28 +180,31 @@ pub const NOTED: [Noted; 36] = [
         s.ends_watch() && s.held() && s.holds()
     }),
     ("divided turn written", |s| {
-        s.written() && s.before.core.gathering.blocks > 0
+        s.written() && s.before.core.blocks() > 0
     }),
     ("turn of 17 blocks written", |s| {
-        s.written() && s.before.core.gathering.blocks == 16
+        s.written() && s.before.core.blocks() == 16
     }),
     ("block 1 in the midst of a turn", |s| {
-        s.before.core.gathering.blocks > 0 && s.after.core.gathering.blocks == 1
+        s.before.core.blocks() > 0 && s.after.core.blocks() == 1
     }),
     ("gathered dropped by a cyclic frame", |s| {
         s.drops_gathered() && s.answer.word == WORD_CYCLIC && s.answer.data == DROPPED
     }),
     ("our divided turn sent", |s| {
-        s.asks() && s.before.core.block > 0 && s.after.core.block == 0
+        s.asks() && s.before.core.block() > 0 && s.after.core.block() == 0
     }),
     ("our turn of 17 blocks sent", |s| {
-        s.asks() && s.before.core.block == 16 && s.after.core.block == 0
+        s.asks() && s.before.core.block() == 16 && s.after.core.block() == 0
     }),
     ("token lost between our blocks", |s| {
-        s.before.core.block > 0 && s.after.core.phase == PARTICIPATING && !s.asks() && !s.holds()
+        s.before.core.block() > 0
+            && s.after.core.phase() == PARTICIPATING
+            && !s.asks()
+            && !s.holds()
     }),
     ("our pass to ourselves", |s| {
-        s.stays() && s.asks() && s.holds() && s.after.core.block == 0
+        s.stays() && s.asks() && s.holds() && s.after.core.block() == 0
     }),
     ("gap of 65,535", |s| s.gap_becomes(65_535)),
     ("gap over", |s| s.gap_becomes(65_536)),

@@ -1,5 +1,6 @@
 //! The model's calls in the boundary's types: what is handed in, and what is answered.
 
+use super::frame::Header;
 use super::{Answer, Figure, Model, Refusal};
 use crate::boundary;
 use crate::engine::Engine;
@@ -19,7 +20,12 @@ impl Engine for Model {
     }
 
     fn hear(&mut self, octets: &[u8], memory: &mut [u8], assembly: &mut [u8]) -> boundary::Answer {
-        outcome(Model::hear(self, octets, memory, assembly))
+        let mut told = None;
+        let answer = outcome(Model::hear(self, octets, memory, assembly, &mut told));
+        boundary::Answer {
+            frame: told.map_or_else(Default::default, Into::into),
+            ..answer
+        }
     }
 
     fn ask(&mut self, memory: &[u8], turn: &mut [u8], output: &mut [u8]) -> boundary::Answer {
@@ -28,6 +34,16 @@ impl Engine for Model {
 
     fn show(&self) -> boundary::Figure {
         Model::show(self).into()
+    }
+}
+
+impl From<Header> for boundary::Route {
+    fn from(header: Header) -> boundary::Route {
+        boundary::Route {
+            code: header.code as u16,
+            source: header.source,
+            destination: header.destination,
+        }
     }
 }
 

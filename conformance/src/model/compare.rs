@@ -29,7 +29,6 @@ macro_rules! alike {
 alike!(Part: address, size);
 alike!(Areas: one, two);
 alike!(Settings: number, areas, watch);
-alike!(Panel: takings, running, gap);
 
 impl From<&Entry> for boundary::Entry {
     fn from(entry: &Entry) -> boundary::Entry {
@@ -55,21 +54,18 @@ impl From<&List> for boundary::List {
 /// What a phase does not use is 0.
 impl From<&Model> for boundary::Core {
     fn from(model: &Model) -> boundary::Core {
-        let mut core = boundary::Core {
-            phase: OFF,
-            own: model.own.into(),
-            ..Default::default()
-        };
+        let mut core = boundary::Core::default();
+        core.set_own(model.own.into());
         match model.phase {
-            Phase::Off => {}
+            Phase::Off => core.phase = OFF.into(),
             Phase::Listening { ticks } => {
-                core.phase = LISTENING;
+                core.phase = LISTENING.into();
                 core.elapsed = ticks;
             }
             Phase::Startup { ticks, sent } => {
-                core.phase = STARTUP;
+                core.phase = STARTUP.into();
                 core.elapsed = ticks;
-                core.sent = sent;
+                core.sent = sent.into();
             }
             Phase::Joining(joining) => joining.show(&mut core),
             Phase::Participating(participant) => participant.show(&mut core),
@@ -89,26 +85,26 @@ impl From<&Model> for boundary::Station {
 
 impl Joining {
     fn show(&self, core: &mut boundary::Core) {
-        core.phase = JOINING;
+        core.phase = JOINING.into();
         core.elapsed = self.quiet;
         core.waited = self.waited;
-        core.rounds = self.rounds;
-        core.view = self.destination;
+        core.rounds = self.rounds.into();
+        core.view = self.destination.into();
     }
 }
 
 impl Participant {
     fn show(&self, core: &mut boundary::Core) {
-        core.phase = PARTICIPATING;
+        core.phase = PARTICIPATING.into();
         core.elapsed = self.watched;
-        core.view = self.view;
-        core.block = self.sent;
-        core.panel = self.panel.into();
+        core.view = self.view.into();
+        core.block = self.sent.into();
+        core.takings = self.panel.takings.into();
+        core.running = self.panel.running;
+        core.gap = self.panel.gap;
         if let Some(gathered) = self.gathering.0 {
-            core.gathering = boundary::Gathering {
-                source: gathered.source,
-                blocks: gathered.blocks,
-            };
+            core.source = gathered.source.into();
+            core.blocks = gathered.blocks.into();
         }
     }
 }
@@ -117,7 +113,7 @@ impl Participant {
 impl From<&boundary::Station> for Model {
     fn from(station: &boundary::Station) -> Model {
         Model {
-            own: station.core.own.into(),
+            own: station.core.own().into(),
             list: (&station.list).into(),
             phase: (&station.core).into(),
         }
@@ -146,39 +142,45 @@ impl From<boundary::Entry> for Entry {
 
 impl From<&boundary::Core> for Phase {
     fn from(core: &boundary::Core) -> Phase {
-        match core.phase {
+        match core.phase() {
             LISTENING => Phase::Listening {
                 ticks: core.elapsed,
             },
             STARTUP => Phase::Startup {
                 ticks: core.elapsed,
-                sent: core.sent,
+                sent: core.sent(),
             },
             JOINING => Phase::Joining(Joining {
                 quiet: core.elapsed,
                 waited: core.waited,
-                rounds: core.rounds,
-                destination: core.view,
+                rounds: core.rounds(),
+                destination: core.view(),
             }),
             PARTICIPATING => Phase::Participating(Participant {
-                view: core.view,
+                view: core.view(),
                 watched: core.elapsed,
-                sent: core.block,
-                gathering: core.gathering.into(),
-                panel: core.panel.into(),
+                sent: core.block(),
+                gathering: core.into(),
+                panel: core.into(),
             }),
             _ => Phase::Off,
         }
     }
 }
 
-impl From<boundary::Gathering> for Gathering {
-    fn from(gathering: boundary::Gathering) -> Gathering {
-        Gathering(
-            (gathering != boundary::Gathering::default()).then_some(Gathered {
-                source: gathering.source,
-                blocks: gathering.blocks,
-            }),
-        )
+impl From<&boundary::Core> for Gathering {
+    fn from(core: &boundary::Core) -> Gathering {
+        let (source, blocks) = (core.source(), core.blocks());
+        Gathering(((source, blocks) != (0, 0)).then_some(Gathered { source, blocks }))
+    }
+}
+
+impl From<&boundary::Core> for Panel {
+    fn from(core: &boundary::Core) -> Panel {
+        Panel {
+            takings: core.takings(),
+            running: core.running,
+            gap: core.gap,
+        }
     }
 }

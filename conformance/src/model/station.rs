@@ -125,8 +125,16 @@ impl Model {
         Answer::Done
     }
 
-    pub fn hear(&mut self, octets: &[u8], memory: &mut [u8], assembly: &mut [u8]) -> Outcome {
+    /// Tells of a frame that can be read, whatever is answered to it.
+    pub fn hear(
+        &mut self,
+        octets: &[u8],
+        memory: &mut [u8],
+        assembly: &mut [u8],
+        told: &mut Option<Header>,
+    ) -> Outcome {
         if memory.len() != MEMORY || assembly.len() != MEMORY {
+            *told = Header::of(octets);
             return Err(Refusal::Buffer);
         }
         let header = Header::read(octets)?;
@@ -134,9 +142,11 @@ impl Model {
             if !matches!(self.phase, Phase::Participating(_)) {
                 self.turn_off();
             }
+            *told = header.data(octets).ok().map(|_| header);
             return Err(Refusal::Taken);
         }
         let data = header.data(octets)?;
+        *told = Some(header);
         match (header.code, &mut self.phase) {
             (_, Phase::Off) => Ok(Answer::Off),
             (Code::Trigger, _) => Ok(self.hear_trigger()),

@@ -80,11 +80,11 @@ fn point(seat: &mut Seat, view: u8, random: &mut Random) {
     // number, whoever sends.
     let source = match seat.holds() {
         true => seat.listed().next().expect("a list"),
-        false => seat.station.core.view,
+        false => seat.station.core.view(),
     };
     seat.hear(&Frame::token(source, view).octets(random));
     assert_eq!(
-        seat.station.core.view,
+        seat.station.core.view(),
         view,
         "station {} pointed elsewhere",
         seat.number()

@@ -23,18 +23,18 @@ pub enum Step {
 
 impl Measured {
     pub fn after(self, step: Step, before: &Core, after: &Core) -> Measured {
-        if after.phase != PARTICIPATING {
+        if after.phase() != PARTICIPATING {
             return Measured::default();
         }
-        let ours = after.view == after.own.number;
-        if before.phase != PARTICIPATING {
+        let ours = after.view() == after.own().number;
+        if before.phase() != PARTICIPATING {
             return Measured {
                 takings: ours as u64,
                 ..Measured::default()
             };
         }
         let running = self.running + (step == Step::Tick) as u64;
-        let taken = ours && (before.view != before.own.number || step == Step::Pass);
+        let taken = ours && (before.view() != before.own().number || step == Step::Pass);
         if taken {
             Measured {
                 takings: self.takings + 1,

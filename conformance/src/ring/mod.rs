@@ -78,14 +78,16 @@ impl Ring {
     pub fn views(&self) -> Vec<u8> {
         self.seats
             .iter()
-            .map(|seat| seat.station.core.view)
+            .map(|seat| seat.station.core.view())
             .collect()
     }
 
     /// All views are equal.
     pub fn agrees(&self) -> bool {
-        let view = self.seats[0].station.core.view;
-        self.seats.iter().all(|seat| seat.station.core.view == view)
+        let view = self.seats[0].station.core.view();
+        self.seats
+            .iter()
+            .all(|seat| seat.station.core.view() == view)
     }
 
     /// This station participates, and its list has each other station of the ring and nobody else.

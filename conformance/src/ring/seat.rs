@@ -54,21 +54,21 @@ impl Seat {
     }
 
     pub fn participates(&self) -> bool {
-        self.station.core.phase == PARTICIPATING
+        self.station.core.phase() == PARTICIPATING
     }
 
     pub fn holds(&self) -> bool {
-        self.participates() && self.station.core.view == self.own.number
+        self.participates() && self.station.core.view() == self.own.number
     }
 
     /// False only where no frame can be due: a trigger waits for token detection, a request for its
     /// phase, a block for the token.
     pub fn may_send(&self) -> bool {
         let core = &self.station.core;
-        match core.phase {
+        match core.phase() {
             LISTENING => core.elapsed >= waits::TOKEN_DETECTION,
-            STARTUP => !core.sent,
-            JOINING => core.rounds == 3,
+            STARTUP => !core.sent(),
+            JOINING => core.rounds() == 3,
             _ => self.holds(),
         }
     }

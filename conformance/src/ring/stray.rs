@@ -66,7 +66,7 @@ fn request(sender: &Settings, requests: Requests, random: &mut Random) -> Frame 
 /// A frame that any participant hears, and any asking, with a buffer of a wrong length.
 fn call_with_wrong_buffers(seat: &mut Seat, random: &mut Random) {
     let before = seat.station.core;
-    let octets = Frame::token(before.view, seat.number()).octets(random);
+    let octets = Frame::token(before.view(), seat.number()).octets(random);
     let short = random.below(seat.memory.len());
     let mut long = vec![0; seat.memory.len() + 1];
     let Seat {

@@ -30,8 +30,8 @@ pub const JOINING: u8 = 3;
 
 pub const PARTICIPATING: u8 = 4;
 
-// A station's state without its list, its phase as a number. In this order it has 40 octets, which compilers copy in pieces that do not
-// overlap; 44 would be copied in pieces that do, and reading such a piece right after it was stored stalls the processor.
+// A station's state without its list, its phase as a number. It goes by value between the crates alone, where the compiler takes it apart;
+// C keeps it in numbers (`boundary_places`).
 #[repr(C)]
 pub struct Core {
     pub phase: u8,

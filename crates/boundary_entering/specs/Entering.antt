@@ -1,12 +1,11 @@
 -- Such a frame, heard: the core after it by the core before, and the list. Assumes nothing.
 use Rattle.laws.specs.Usual.{_≡_, refl, sym, ap, _∙_, Bool, true, false, cond, not, _&&_, _||_, false≢true, List, ℕ, arith, length, eqb}
-use borrow.Author.Tests.{eqb-true, ne-eqb}
-use native.Mathlib.Decide.{ℕ-discrete}
+use borrow.Author.Tests.{eqb-true}
 use Rattle.boundary_core.specs.Crossing.{phaseOf, stationOf, coreOf, isIn}
 use Rattle.boundary_core.specs.declared.Core.{Core}
 use Rattle.boundary_participant.specs.Quick.{isAccepted}
 use Rattle.boundary_refused.specs.Strange.{isStrange}
-use Rattle.boundary_refused.specs.Taken.{isTakenBy}
+use Rattle.boundary_refused.specs.Taken.{isTakenBy, participating-in}
 use Rattle.frame.specs.Codes.{isToken, isCyclic}
 use Rattle.frame_reading.specs.Reading.{andThen, readHeaderOf, readBodyOf, readOf}
 use Rattle.frame_round_trip.specs.Accepted.{bodied}
@@ -46,20 +45,6 @@ module _ (core : Core) (members : Members) where
 
   pub same-ours : oursDue (stationOf core members) ≡ oursIn core
   same-ours = rw (same-fallen (phaseOf (core .phase)))
-
--- 4 is the number of participating
-participating-in : (number : ℕ) → isParticipating (phaseOf number) ≡ eqb number 4
-participating-in number = at (ℕ-discrete number 4)
-  where
-    others : (a b c : Bool) → isParticipating (cond a Listening (cond b Startup (cond c Joining Off))) ≡ false
-    others true b c = refl
-    others false true c = refl
-    others false false true = refl
-    others false false false = refl
-
-    at : Dec (number ≡ 4) → isParticipating (phaseOf number) ≡ eqb number 4
-    at (yes e) = rw e
-    at (no other) = rw (ne-eqb number 4 other) (others (eqb number 1) (eqb number 2) (eqb number 3))
 
 -- a cyclic frame that a participant hears
 abbrev pub forParticipant : Core → Fields → Bool
@@ -105,10 +90,13 @@ module _
     header-entered (Refused refusal) e = let z : _≡_ {A = ℕ} 0 1 = cc in absurd (omega arith)
     header-entered (Frame header) e = rw (e, bodied (length octets) header frame e .is-same, free, no-participant)
 
-    -- it does what its effect is
-    pub entered : (effect : Effect) → effectOf (phaseOf (core .phase)) (frame .code) ≡ effect → lentRight memory assembly ≡ true → readOf octets ≡ Frame frame
-        → hearOf station octets memory assembly ≡ heard (afterEffect effect station frame begun)
+    -- it is heard as the phase has it
+    pub heard-entered : lentRight memory assembly ≡ true → readOf octets ≡ Frame frame → hearOf station octets memory assembly ≡ heard begun
     unfolding readOf
-    entered effect e lent read =
-        rw lent (header-entered (readHeaderOf octets) read)
-        ∙ ap heard (enters-by (phaseOf (core .phase)) (frame .code) station frame ∙ ap (λ (t : Effect). afterEffect t station frame begun) e)
+    heard-entered lent read = rw lent (header-entered (readHeaderOf octets) read)
+
+-- and does what its effect is
+pub entered : (phase : Phase) (station : Station) (frame : Fields) (effect : Effect) → effectOf phase (frame .code) ≡ effect
+    → enters phase (frame .code) station frame ≡ afterEffect effect station frame (enters phase (frame .code) station frame)
+entered phase station frame effect e =
+    enters-by phase (frame .code) station frame ∙ ap (λ (t : Effect). afterEffect t station frame (enters phase (frame .code) station frame)) e

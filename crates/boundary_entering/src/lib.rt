@@ -6,18 +6,15 @@ use boundary_core::phase_of;
 use frame::Code;
 use frame::Fields;
 use station::Phase;
-ghost use Rattle.laws.specs.Usual.{_≡_, true, false, cond, ltb};
+ghost use Rattle.laws.specs.Usual.{_≡_, cond, ltb};
 ghost use Rattle.boundary_answers.specs.Numbers.{heardAnswer};
-ghost use Rattle.boundary_core.specs.Crossing.{coreOf, stationIn};
+ghost use Rattle.boundary_core.specs.Crossing.{phaseOf, coreOf, stationIn};
 ghost use Rattle.boundary_entering.specs.Effects.{effectOf};
-ghost use Rattle.boundary_entering.specs.Entering.{requestedCore, joinedCore, fallenCore, oursIn, forParticipant};
+ghost use Rattle.boundary_entering.specs.Entering.{requestedCore, joinedCore, fallenCore, oursIn};
 ghost use Rattle.boundary_lists.specs.Lists.{membersIn};
-ghost use Rattle.boundary_refused.specs.Taken.{isTakenBy};
-ghost use Rattle.frame_reading.specs.Reading.{readOf};
-ghost use Rattle.frame_reading.specs.declared.Read.the-variants as reads;
 ghost use Rattle.frame_writing.specs.Writing.{noAreas};
 ghost use Rattle.members.specs.Listing.{listing};
-ghost use Rattle.station.specs.Rules.Hearing.{lentRight, hearOf};
+ghost use Rattle.station.specs.Rules.Hearing.{enters, entersAnswer};
 ghost use Rattle.station.specs.declared.Phase.the-variants as phases;
 
 // What becomes of the list: nothing, its station is listed by its request, joining learns its station, or a phase begins with an empty list.
@@ -198,19 +195,10 @@ pub fn hear(
     watch: &mut [u8; 256],
     misses: &mut [u8; 256],
     frame: Fields,
-    octets: &[u8],
-    memory: &mut [u8],
-    assembly: &mut [u8],
 ) -> Outcome
-    requires { ⌜ isTakenBy core frame ≡ false ⌝ }
-    requires { ⌜ forParticipant core frame ≡ false ⌝ }
-    requires { ⌜ lentRight (now memory) (now assembly) ≡ true ⌝ }
-    requires { ⌜ readOf (now octets) ≡ reads.Frame frame ⌝ }
-    ensures { λ r. ⌜ r .core ≡ coreOf (hearOf (stationIn core (now (listed .entry)) (now (areas .entry)) (now (watch .entry)) (now (misses .entry))) (now (octets .entry)) (now (memory .entry)) (now (assembly .entry)) .station) ⌝ }
-    ensures { λ r. ⌜ r .answer ≡ heardAnswer (hearOf (stationIn core (now (listed .entry)) (now (areas .entry)) (now (watch .entry)) (now (misses .entry))) (now (octets .entry)) (now (memory .entry)) (now (assembly .entry)) .answer) ⌝ }
-    ensures { λ _. ⌜ now (memory .exit) ≡ hearOf (stationIn core (now (listed .entry)) (now (areas .entry)) (now (watch .entry)) (now (misses .entry))) (now (octets .entry)) (now (memory .entry)) (now (assembly .entry)) .memory ⌝ }
-    ensures { λ _. ⌜ now (assembly .exit) ≡ hearOf (stationIn core (now (listed .entry)) (now (areas .entry)) (now (watch .entry)) (now (misses .entry))) (now (octets .entry)) (now (memory .entry)) (now (assembly .entry)) .assembly ⌝ }
-    ensures { λ _. ⌜ membersIn (now (listed .exit)) (now (areas .exit)) (now (watch .exit)) (now (misses .exit)) ≡ hearOf (stationIn core (now (listed .entry)) (now (areas .entry)) (now (watch .entry)) (now (misses .entry))) (now (octets .entry)) (now (memory .entry)) (now (assembly .entry)) .station .members ⌝ }
+    ensures { λ r. ⌜ r .core ≡ coreOf (enters (phaseOf (core .phase)) (frame .code) (stationIn core (now (listed .entry)) (now (areas .entry)) (now (watch .entry)) (now (misses .entry))) frame) ⌝ }
+    ensures { λ r. ⌜ r .answer ≡ heardAnswer (entersAnswer (phaseOf (core .phase)) (frame .code)) ⌝ }
+    ensures { λ _. ⌜ membersIn (now (listed .exit)) (now (areas .exit)) (now (watch .exit)) (now (misses .exit)) ≡ enters (phaseOf (core .phase)) (frame .code) (stationIn core (now (listed .entry)) (now (areas .entry)) (now (watch .entry)) (now (misses .entry))) frame .members ⌝ }
 {
     let code = frame.code;
     let phase = phase_of(core.phase);
@@ -229,15 +217,8 @@ pub fn hear(
             let core = join(core, frame);
             Outcome { core, answer }
         }
-        Effect::Begun => boundary_whole::hear(
-            core,
-            listed,
-            areas,
-            watch,
-            misses,
-            octets,
-            memory,
-            assembly,
-        ),
+        Effect::Begun => {
+            boundary_whole::enter(core, listed, areas, watch, misses, frame, answer)
+        }
     }
 }

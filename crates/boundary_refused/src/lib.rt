@@ -1,13 +1,11 @@
-// Calls that are refused, on the core alone: whether a frame is due, why a call is refused, and what a refusal leaves.
+// Calls that are refused, on the core alone: whether a frame is due, why a call is refused, and a core that nothing alters.
 use boundary_core::Core;
-use boundary_core::Outcome;
 use boundary_core::phase_number;
 use boundary_core::phase_of;
 use frame::Fields;
 use frame::Refusal;
 use station::Phase;
 ghost use Rattle.laws.specs.Usual.{_≡_};
-ghost use Rattle.boundary_answers.specs.Numbers.{refusedAnswer};
 ghost use Rattle.boundary_refused.specs.Due.{dueCore, keptCore, askRefusal};
 ghost use Rattle.boundary_refused.specs.Unheard.{heardRefusal};
 ghost use Rattle.boundary_refused.specs.Taken.{isTakenBy};
@@ -72,16 +70,4 @@ pub fn kept(core: Core) -> Core
 {
     let phase = phase_number(phase_of(core.phase));
     Core { phase, ..core }
-}
-
-// A refused call: its number alone, and nothing altered.
-pub fn refuse(core: Core, refusal: Refusal) -> Outcome
-    ensures { λ r. ⌜ r .core ≡ keptCore core ⌝ }
-    ensures { λ r. ⌜ r .answer ≡ refusedAnswer refusal ⌝ }
-{
-    let answer = boundary_core::refused(refusal);
-    Outcome {
-        core: kept(core),
-        answer,
-    }
 }

@@ -50,12 +50,7 @@ code-told number code e = by (eqb number 65000) refl (eqb number 65001) refl (eq
     by false _ false _ false _ true is h = sym (ap codeNumber (same h)) ∙ sym (eqb-true number 65012 is)
     by false _ false _ false _ false _ h = let z : _≡_ {A = ℕ} 0 1 = cc in absurd (omega arith)
 
--- an answer with the route of what was read,
-pub told-heard : (octets : List ℕ) (answer : Heard) {told : Answer} → told ≡ heardAnswer answer
-    → withFrame told (routeRead (readOf octets)) ≡ heardTold octets answer
-told-heard octets answer e = ap (λ (t : Answer). withFrame t (routeRead (readOf octets))) e
-
--- of a frame that was read,
+-- an answer with the route of what was read: of a frame that was read,
 pub told-read : (octets : List ℕ) (frame : Fields) (answer : Heard) → readOf octets ≡ Frame frame
     → withFrame (heardAnswer answer) (routeOf frame) ≡ heardTold octets answer
 told-read octets frame answer read = ap (λ (r : Read). withFrame (heardAnswer answer) (routeRead r)) (sym read)
@@ -101,3 +96,9 @@ header-unread octets refusal h = in-parts octets ∙ rw h
 pub body-unread : (octets : List ℕ) (header : Fields) (refusal : Refusal) → readHeaderOf octets ≡ Frame header
     → readBodyOf (length octets) header ≡ Refused refusal → readOf octets ≡ Refused refusal
 body-unread octets header refusal h b = in-parts octets ∙ rw h b
+
+-- Of octets whose header was read.
+pub told-header : (octets : List ℕ) (header : Fields) (answer : Heard) {told : Answer} → readHeaderOf octets ≡ Frame header → told ≡ heardAnswer answer
+    → withFrame told (routeRead (readBodyOf (length octets) header)) ≡ heardTold octets answer
+told-header octets header answer h e =
+    ap₂ (λ (t : Answer) (r : Read). withFrame t (routeRead r)) e (sym (in-parts octets ∙ ap (λ (r : Read). andThen r (readBodyOf (length octets))) h))

@@ -10,7 +10,7 @@ use frame_reading::SNA;
 use frame_reading::TCD;
 ghost use Rattle.laws.specs.Usual.{_≡_};
 ghost use Rattle.frame.specs.Octets.{octetAt};
-ghost use Rattle.frame_reading.specs.Reading.{readOf};
+ghost use Rattle.frame_reading.specs.Reading.{readBodyOf};
 ghost use Rattle.boundary_told.specs.Told.{routeOf, routeRead, routeIn, withFrame, writtenTold};
 
 fn route_of(frame: Fields) -> Route
@@ -32,11 +32,11 @@ pub fn tell_read(answer: Answer, frame: Fields) -> Answer
     Answer { frame, ..answer }
 }
 
-// The octets read once more.
-fn route_read(s: &[u8]) -> Route
-    ensures { λ r. ⌜ r ≡ routeRead (readOf (now (s .entry))) ⌝ }
+// Of a frame whose header was read: of none, where its body is refused.
+fn route_read(length: usize, header: Fields) -> Route
+    ensures { λ r. ⌜ r ≡ routeRead (readBodyOf length header) ⌝ }
 {
-    match frame_body::read_frame(s) {
+    match frame_body::read_body(length, header) {
         Read::Frame(frame) => route_of(frame),
         Read::Refused(_) => NO_FRAME,
     }
@@ -60,11 +60,11 @@ fn route_in(s: &[u8]) -> Route
     }
 }
 
-// The answer to octets that may be a frame, or none.
-pub fn tell_heard(answer: Answer, octets: &[u8]) -> Answer
-    ensures { λ r. ⌜ r ≡ withFrame answer (routeRead (readOf (now (octets .entry)))) ⌝ }
+// The answer to so many octets, whose header was read, and which may be a frame, or none.
+pub fn tell_header(answer: Answer, length: usize, header: Fields) -> Answer
+    ensures { λ r. ⌜ r ≡ withFrame answer (routeRead (readBodyOf length header)) ⌝ }
 {
-    let frame = route_read(octets);
+    let frame = route_read(length, header);
     Answer { frame, ..answer }
 }
 

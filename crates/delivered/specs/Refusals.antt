@@ -1,8 +1,7 @@
 -- Demand 1 of the exported calls: "a numbered refusal changes no buffer, and no station state except in the one case that the table names".
 -- Assumes nothing.
-use Rattle.laws.specs.Usual.{_≡_, refl, sym, ap, _∙_, false, List, ℕ, suc, _<_, _≤_, arith}
-use Prim.Native.Nat.{zero}
-use Rattle.boundary_core.specs.Crossing.{coreOf, stationOf, station-kept, phaseOf}
+use Rattle.laws.specs.Usual.{_≡_, refl, sym, ap, _∙_, false, List, ℕ, _<_, arith}
+use Rattle.boundary_core.specs.Crossing.{coreOf, stationOf, station-kept}
 use Rattle.boundary_answers.specs.Numbers.{switchedAnswer, tickedAnswer}
 use Rattle.boundary_told.specs.Told.{heardTold, askedTold}
 use Rattle.boundary_answers.specs.declared.Answer.{Answer}
@@ -11,7 +10,8 @@ use Rattle.frame.specs.Refusals.{numberOf}
 use Rattle.frame.specs.declared.Refusal.the-variants as refusals
 use Rattle.boundary_lists.specs.Laws.{list-told}
 use Rattle.boundary_lists.specs.Lists.{membersIn}
-use Rattle.station.specs.Rules.Answers.{phaseNumber}
+use Rattle.boundary_places.specs.Laws.{kept-same, core-in-back}
+use Rattle.boundary_places.specs.Places.{kept}
 use Rattle.station.specs.Rules.Asking.{askOf}
 use Rattle.station.specs.Rules.Calls.{Call, start, stop, tick, hear, ask, after, lent, Verdict, refusedBy, unrefused, verdict, switchedVerdict, heardVerdict, askedVerdict}
 use Rattle.station.specs.Rules.Hearing.{hearOf}
@@ -22,9 +22,7 @@ use Rattle.station.specs.Rules.Ticking.{tickOf}
 use Rattle.station.specs.declared.Asked.the-variants as asked
 use Rattle.station.specs.declared.Heard.the-variants as heard
 use Rattle.station.specs.declared.Switched.the-variants as switched
-use Rattle.station.specs.Types.{Refusal, Members}
-use Rattle.station.specs.declared.Phase.{Phase}
-use Rattle.station.specs.declared.Phase.the-variants.{Off, Listening, Startup, Joining, Participating}
+use Rattle.station.specs.Types.{Refusal}
 use Rattle.station.specs.declared.Station.{Station}
 use Rattle.station.specs.declared.Switched.{Switched}
 use Rattle.station.specs.declared.Ticked.{Ticked}
@@ -75,57 +73,18 @@ told station tick = ticked-told (tickOf station .answer)
 told station (hear octets memory assembly) = heard-told octets (hearOf station octets memory assembly .answer)
 told station (ask memory turn output) = asked-told (askOf station memory turn output .output) (askOf station memory turn output .answer)
 
--- a core whose phase is one of the five comes back as it was
-phase-back : (number : ℕ) → number ≤ 4 → phaseNumber (phaseOf number) ≡ number
-phase-back zero small = refl
-phase-back (suc zero) small = refl
-phase-back (suc (suc zero)) small = refl
-phase-back (suc (suc (suc zero))) small = refl
-phase-back (suc (suc (suc (suc zero)))) small = refl
-phase-back (suc (suc (suc (suc (suc n))))) small = absurd (omega arith)
-
-withNumber : ℕ → Core → Core
-withNumber number core = record {
-  phase = number;
-  own = core .own;
-  elapsed = core .elapsed;
-  waited = core .waited;
-  rounds = core .rounds;
-  sent = core .sent;
-  view = core .view;
-  block = core .block;
-  gathering = core .gathering;
-  panel = core .panel;
-}
-
-core-back : (core : Core) (members : Members) → core .phase ≤ 4 → coreOf (stationOf core members) ≡ core
-unfolding withNumber
-core-back core members small = ap (λ (number : ℕ). withNumber number core) (phase-back (core .phase) small)
-
--- every call leaves a phase that is one of the five
-small-phase : (phase : Phase) → phaseNumber phase ≤ 4
-small-phase Off = omega arith
-small-phase Listening = omega arith
-small-phase Startup = omega arith
-small-phase Joining = omega arith
-small-phase Participating = omega arith
-
-pub phase-small : {before left : Box} {call : Call} {answer : Answer} {buffers : List (List ℕ)} → Done before call left answer buffers
-    → left .core .phase ≤ 4
-phase-small {before} {left} {call} done =
-    rw (ap (λ (c : Core). c .phase) (done .core)) (small-phase (after (stationAt before) call .phase))
-
--- What a refused call leaves of a box: every octet as it was, or number 6 came before we participate and left just what stop leaves.
+-- What a refused call leaves of a box: every octet as it was, or number 6 came before we participate and left just what stop leaves, with what
+-- stands above the low parts of the numbers as it was.
 pub data Kept (before left : Box) (number : ℕ) : Type 0 where
-  unchanged : left .core ≡ before .core → left .listed ≡ before .listed → left .areas ≡ before .areas → left .watch ≡ before .watch
+  unchanged : left .numbers ≡ before .numbers → left .listed ≡ before .listed → left .areas ≡ before .areas → left .watch ≡ before .watch
       → left .misses ≡ before .misses → Kept before left number
   stops : number ≡ 6 → isParticipating (stationAt before .phase) ≡ false → stationAt left ≡ stopped (stationAt before)
-      → Kept before left number
+      → left .numbers ≡ kept (before .numbers) (coreOf (stopped (stationAt before))) → Kept before left number
 
 -- A refused call leaves every lent buffer and every octet of the state as they were, but for number 6 before we participate.
-pub refused-kept : {before left : Box} {call : Call} {answer : Answer} {buffers : List (List ℕ)} → before .core .phase ≤ 4
+pub refused-kept : {before left : Box} {call : Call} {answer : Answer} {buffers : List (List ℕ)}
     → Done before call left answer buffers → answer .word ≡ 4 → (buffers ≡ lent call) × Kept before left (answer .refusal)
-refused-kept {before} {left} {call} {answer} {buffers} small done word = (done .lends ∙ what .buffers, by (what .state))
+refused-kept {before} {left} {call} {answer} {buffers} done word = (done .lends ∙ what .buffers, by (what .state))
   where
     said : Told (verdict (stationAt before) call) (answerOf (stationAt before) call)
     said = told (stationAt before) call (sym (ap (λ (a : Answer). a .word) (done .answered)) ∙ word)
@@ -136,10 +95,15 @@ refused-kept {before} {left} {call} {answer} {buffers} small done word = (done .
     number-is : answer .refusal ≡ numberOf (said .refusal)
     number-is = ap (λ (a : Answer). a .refusal) (done .answered) ∙ said .number
 
+    put : {station : Station} → after (stationAt before) call ≡ station → left .numbers ≡ kept (before .numbers) (coreOf station)
+    put e = done .numbers ∙ ap (λ (s : Station). kept (before .numbers) (coreOf s)) e
+
     by : Spared (stationAt before) (after (stationAt before) call) (said .refusal) → Kept before left (answer .refusal)
     by (same e) =
         let arrays = list-told (left .listed) (left .areas) (left .watch) (left .misses) (before .listed) (before .areas) (before .watch)
         (before .misses) (left .whole) (before .whole) (done .list ∙ ap (λ (s : Station). s .members) e) in
-        unchanged (done .core ∙ ap coreOf e ∙ core-back (before .core) (stationAt before .members) small)
+        unchanged
+        (put e ∙ ap (kept (before .numbers)) (core-in-back (before .numbers) (stationAt before .members))
+        ∙ kept-same (before .numbers) (before .each-number))
         (arrays .0) (arrays .1) (arrays .2) (arrays .3)
-    by (turnedOff six out e) = stops (number-is ∙ ap numberOf six) out (left-is done ∙ e)
+    by (turnedOff six out e) = stops (number-is ∙ ap numberOf six) out (left-is done ∙ e) (put e)

@@ -6,6 +6,7 @@ use native.Mathlib.Decide.{ℕ-discrete}
 use borrow.Author.Tests.{eq-eqb, ne-eqb}
 use Rattle.boundary_told.specs.Told.{askedTold}
 use Rattle.boundary_answers.specs.declared.Answer.{Answer}
+use Rattle.boundary_places.specs.Places.{coreIn}
 use Rattle.ring.specs.Demand.{Disturbed, RingSettles}
 use Rattle.ring.specs.DemandThree.{demand-three-whole}
 use Rattle.ring.specs.Events.{Stations, Lent, Event, asked, ticked, stray, handed, afterEvent, AllName, CanCome}
@@ -135,7 +136,7 @@ pub delivered-settles : {numbers : List ℕ} {boxes : Boxes} → Disturbed numbe
     × FirstAgreement afterEvent (AllName numbers) (stationsIn boxes) events before later
     × RingSettles numbers (stationsIn boxes) before later
     × ((part rest : List Event) (left : Boxes) → events ≡ part ++ rest → Runs numbers boxes part left → (n : ℕ) → n ∈ numbers
-    → left n .core .view ≡ afterAll afterEvent (stationsIn boxes) part n .view)
+    → coreIn (left n .numbers) .view ≡ afterAll afterEvent (stationsIn boxes) part n .view)
 delivered-settles {numbers} {boxes} ring events come =
     let found = demand-three-whole ring events come in (
       found .0,

@@ -13,6 +13,7 @@ use Rattle.block.specs.Cut as cut
 use Rattle.boundary_core.specs.Crossing.{figureIn}
 use Rattle.boundary_answers.specs.declared.Answer.{Answer}
 use Rattle.boundary_told.specs.Told.{routeRead}
+use Rattle.boundary_places.specs.Places.{coreIn}
 use Rattle.cases.specs.Marked.{every, rules, holds, marked, marked-hold}
 use Rattle.decode_line.specs.Gathering as decoded
 use Rattle.decode_line.specs.Heard.{line-heard}
@@ -106,7 +107,7 @@ pub panel-text : (calls : List Call)
 panel-text calls = shown-text (figureShown (stateAfter never calls))
 
 -- Of the station as C keeps it: what `flnet_show` shows is the figure of the station that the box holds.
-pub panel-delivered : (box : Box) → figureIn (box .core) ≡ figureShown (stationAt box)
+pub panel-delivered : (box : Box) → figureIn (coreIn (box .numbers)) ≡ figureShown (stationAt box)
 panel-delivered box = refl
 
 -- THE SECOND PRINTED LINE, AND DEMAND 3: how soon a disturbed ring is back to one token.
@@ -189,7 +190,7 @@ pub disturbed-ring-delivered : {numbers : List ℕ} {boxes : Boxes} → Disturbe
     × FirstAgreement afterEvent (AllName numbers) (stationsIn boxes) events before later
     × RingSettles numbers (stationsIn boxes) before later
     × ((part rest : List Event) (left : Boxes) → events ≡ part ++ rest → Runs numbers boxes part left → (n : ℕ) → n ∈ numbers
-    → left n .core .view ≡ afterAll afterEvent (stationsIn boxes) part n .view)
+    → coreIn (left n .numbers) .view ≡ afterAll afterEvent (stationsIn boxes) part n .view)
 disturbed-ring-delivered = delivered-settles
 
 -- DEMAND 1: every call gets an answer, "either a result or a number from the table".
@@ -212,10 +213,9 @@ refusal-changes-nothing station call refusal e =
     by (same p) = inl p
     by (turnedOff six out p) = inr (six, out, p)
 
--- Of the exported calls: every octet of core, list and buffers, where the answer's word is 4, "refused".
+-- Of the exported calls: every octet of core, list and buffers, whatever stands in them, where the answer's word is 4, "refused".
 pub refusal-changes-nothing-delivered : {before left : Box} {call : Call} {answer : Answer} {buffers : List (List ℕ)}
-    → before .core .phase ≤ 4 → Done before call left answer buffers → answer .word ≡ 4
-    → (buffers ≡ lent call) × Kept before left (answer .refusal)
+    → Done before call left answer buffers → answer .word ≡ 4 → (buffers ≡ lent call) × Kept before left (answer .refusal)
 refusal-changes-nothing-delivered = refused-kept
 
 -- DEMAND 2: "Every start, stop, frame, tick and send moves the station .. exactly as the paper's rules .. say." The rules are the definitions

@@ -5,8 +5,8 @@ use borrow.Author.Needs.{needs}
 use Rattle.boundary_told.proofs.route_read.Statement.{statement}
 use Rattle.boundary_told.proofs.route_read.Tie as tie
 
-read-frame-requires : tie.Need-read-frame-requires
-read-frame-requires c κs = search needs
+read-body-requires : tie.Need-read-body-requires
+read-body-requires c κs = search needs
 
 enum-known-frame : tie.Need-enum-known-frame
 enum-known-frame c = search needs
@@ -18,12 +18,12 @@ enum-told : tie.Need-enum-told
 enum-told c = search needs
 
 returns : tie.Need-returns
-returns c = c .route-of .ensures ∙ ap routeRead (sym (c .before .before .frame .given .1) ∙ c .before .before .before .before .read-frame .ensures)
+returns c = c .route-of .ensures ∙ ap routeRead (sym (c .before .before .frame .given .1) ∙ c .before .before .before .before .read-body .ensures)
 
 returns-2 : tie.Need-returns-2
-returns-2 c = sym (ap routeRead (sym (c .before .before .read-frame .ensures) ∙ c .enum-told .given .1))
+returns-2 c = sym (ap routeRead (sym (c .before .before .read-body .ensures) ∙ c .enum-told .given .1))
 
 pub route-read-spec : {M : Type 1} → statement M
 route-read-spec =
     tie.close
-    (tie.spec read-frame-requires enum-known-frame route-of-requires enum-told returns returns-2)
+    (tie.spec read-body-requires enum-known-frame route-of-requires enum-told returns returns-2)

@@ -1,0 +1,148 @@
+-- `boundary_asking::ask` meets its contract.
+use Rattle.laws.specs.Usual.{_≡_, sym, ap, _∙_, false, _&&_, needs}
+use borrow.Author.Tests.{not-true, not-false}
+use Rattle.boundary_answers.specs.Numbers.{refusedAnswer}
+use Rattle.boundary_core.specs.Crossing.{coreOf, stationIn, stationOf}
+use Rattle.boundary_core.specs.declared.Core.{Core}
+use Rattle.boundary_lists.specs.Lists.{membersIn}
+use Rattle.boundary_places.specs.Laws.{core-in-back, left-alone}
+use Rattle.boundary_places.specs.Places.{coreIn, kept}
+use Rattle.boundary_refused.specs.Due.{dueCore, askRefusal, refused-asked}
+use Rattle.boundary_told.specs.Told.{askedTold}
+use Rattle.laws.specs.Tests.{first, second}
+use Rattle.station.specs.Rules.Asking.{Asking, lentRight, askOf}
+use Rattle.boundary_asking.proofs.ask.Statement.{statement}
+use Rattle.boundary_asking.proofs.ask.Tie as tie
+
+is-lent-right-requires : tie.Need-is-lent-right-requires
+is-lent-right-requires c κs = search needs
+
+core-in-requires : tie.Need-core-in-requires
+core-in-requires c κs = search needs
+
+holds-block-requires : tie.Need-holds-block-requires
+holds-block-requires c κs = search needs
+
+ask-block-requires : tie.Need-ask-block-requires
+ask-block-requires c κs =
+    let held = c .before .before .before .before .before .before .before .before .holds-block .result in
+    let lent = c .before .before .before .before .before .before .before .before .before .before .before .is-lent-right .result in
+    let both = c .before .before .before .before .before .before .before .if1 .taken in
+    (sym (c .before .before .before .before .before .before .before .before .holds-block .ensures) ∙ first held lent both, sym (c .before .before .before .before .before .before .before .before .before .before .before .is-lent-right .ensures) ∙ second held lent both)
+
+same-length : tie.Need-same-length
+same-length c = search needs
+
+same-length-2 : tie.Need-same-length-2
+same-length-2 c = search needs
+
+returns : tie.Need-returns
+returns c =
+    let a = c .before .before .before .before .before .before .before .before .before .before .before .before .before .before .before .before .before .before .before .before .before .before .args in
+    let core = c .before .before .before .before .before .before .before .before .before .before .before .before .before .before .core-in .ensures .0 in
+    let done = c .before .before .before .before .ask-block .ensures in
+    let call : Core → Asking = λ (k : Core). askOf (stationIn k (a .listed .now) (a .areas .now) (a .watch .now) (a .misses .now)) (a .memory .now) (a .turn .now) (a .output .now) in (
+      done .0 ∙ ap (λ (k : Core). coreOf (call k .station)) core,
+      (
+        done .1 .0 ∙ ap (λ (k : Core). kept (a .core .now) (coreOf (call k .station))) core,
+        (
+          done .1 .1 .0 ∙ ap (λ (k : Core). askedTold (call k .output) (call k .answer)) core,
+          (
+            done .1 .1 .1 .0 ∙ ap (λ (k : Core). call k .turn) core,
+            (done .1 .1 .1 .1 .0 ∙ ap (λ (k : Core). call k .output) core, done .1 .1 .1 .1 .1 ∙ ap (λ (k : Core). call k .station .members) core),
+          ),
+        ),
+      ),
+    )
+
+is-due-requires : tie.Need-is-due-requires
+is-due-requires c κs = search needs
+
+ask-refusal-requires : tie.Need-ask-refusal-requires
+ask-refusal-requires c κs = search needs
+
+refused-requires : tie.Need-refused-requires
+refused-requires c κs = search needs
+
+same-length-3 : tie.Need-same-length-3
+same-length-3 c = search needs
+
+same-length-4 : tie.Need-same-length-4
+same-length-4 c = search needs
+
+returns-2 : tie.Need-returns-2
+returns-2 c =
+    let a = c .before .before .before .before .before .before .before .before .before .before .before .before .before .before .args in
+    let core = c .before .before .before .before .before .before .core-in .ensures in
+    let members = membersIn (a .listed .now) (a .areas .now) (a .watch .now) (a .misses .now) in
+    let station = stationOf (coreIn (a .core .now)) members in
+    let due = c .before .before .before .is-due .ensures ∙ ap dueCore (core .0) in
+    let no : (lentRight (a .memory .now) (a .turn .now) (a .output .now) && dueCore (coreIn (a .core .now))) ≡ false =
+    rw (← c .before .before .before .before .before .before .before .before .is-lent-right .ensures, ← due) (not-true _ (c .before .before .if2 .taken)) in
+    let law = refused-asked (coreIn (a .core .now)) members (a .memory .now) (a .turn .now) (a .output .now) no in
+    let asking = askOf station (a .memory .now) (a .turn .now) (a .output .now) in
+    let numbers = left-alone (a .core .now) (asking .station) (core .1) (sym (core-in-back (a .core .now) members) ∙ sym (ap (λ (t : Asking). coreOf (t .station)) law)) in
+    let refusal = c .before .ask-refusal .ensures ∙ ap askRefusal (c .before .before .before .before .before .before .before .before .is-lent-right .ensures) in (
+      numbers .0,
+      (
+        numbers .1,
+        (
+          c .refused .ensures ∙ ap refusedAnswer refusal ∙ sym (ap (λ (t : Asking). askedTold (t .output) (t .answer)) law),
+          (sym (ap (λ (t : Asking). t .turn) law), (sym (ap (λ (t : Asking). t .output) law), sym (ap (λ (t : Asking). t .station .members) law))),
+        ),
+      ),
+    )
+
+ask-due-requires : tie.Need-ask-due-requires
+ask-due-requires c κs =
+    let both = not-false _ (c .before .before .before .before .before .before .before .if2 .left) in
+    let lent = c .before .before .before .before .before .before .before .before .before .before .before .before .before .is-lent-right .result in
+    let due = c .before .before .before .before .before .before .before .before .is-due .result in
+    (sym (c .before .before .before .before .before .before .before .before .before .before .before .before .before .is-lent-right .ensures) ∙ first lent due both, sym (c .before .before .before .before .before .before .before .before .is-due .ensures) ∙ second lent due both)
+
+same-length-5 : tie.Need-same-length-5
+same-length-5 c = search needs
+
+same-length-6 : tie.Need-same-length-6
+same-length-6 c = search needs
+
+returns-3 : tie.Need-returns-3
+returns-3 c =
+    let a = c .before .before .before .before .before .before .before .before .before .before .before .before .before .before .before .before .before .before .before .before .before .before .before .before .args in
+    let core = c .before .before .before .before .before .before .before .before .before .before .before .before .before .before .before .before .core-in .ensures .0 in
+    let done = c .before .before .before .before .ask-due .ensures in
+    let call : Core → Asking = λ (k : Core). askOf (stationIn k (a .listed .now) (a .areas .now) (a .watch .now) (a .misses .now)) (a .memory .now) (a .turn .now) (a .output .now) in (
+      done .0 ∙ ap (λ (k : Core). coreOf (call k .station)) core,
+      (
+        done .1 .0 ∙ ap (λ (k : Core). kept (a .core .now) (coreOf (call k .station))) core,
+        (
+          done .1 .1 .0 ∙ ap (λ (k : Core). askedTold (call k .output) (call k .answer)) core,
+          (
+            done .1 .1 .1 .0 ∙ ap (λ (k : Core). call k .turn) core,
+            (done .1 .1 .1 .1 .0 ∙ ap (λ (k : Core). call k .output) core, done .1 .1 .1 .1 .1 ∙ ap (λ (k : Core). call k .station .members) core),
+          ),
+        ),
+      ),
+    )
+
+pub ask-spec : {M : Type 1} → statement M
+ask-spec =
+    tie.close
+    (tie.spec
+    is-lent-right-requires
+    core-in-requires
+    holds-block-requires
+    ask-block-requires
+    same-length
+    same-length-2
+    returns
+    is-due-requires
+    ask-refusal-requires
+    refused-requires
+    same-length-3
+    same-length-4
+    returns-2
+    ask-due-requires
+    same-length-5
+    same-length-6
+    returns-3)

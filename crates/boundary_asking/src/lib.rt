@@ -1,0 +1,144 @@
+// Asking, on the core in numbers and the list in arrays. A refused asking touches neither. The state that the functions below the call are
+// given is what the numbers hold.
+use boundary_core::Answer;
+use boundary_core::Core;
+use boundary_core::Outcome;
+use boundary_places::keep;
+ghost use Rattle.laws.specs.Usual.{_≡_, true};
+ghost use Rattle.boundary_answers.specs.Numbers.{askedAnswer};
+ghost use Rattle.boundary_core.specs.Crossing.{coreOf, stationIn};
+ghost use Rattle.boundary_lists.specs.Lists.{membersIn};
+ghost use Rattle.boundary_participant.specs.Quick.{holdsBlock};
+ghost use Rattle.boundary_places.specs.Places.{coreIn, kept};
+ghost use Rattle.boundary_refused.specs.Due.{dueCore};
+ghost use Rattle.boundary_told.specs.Told.{askedTold};
+ghost use Rattle.station.specs.Rules.Asking.{lentRight, askOf};
+
+// A holder's block.
+fn ask_block(
+    core: &mut [u32; boundary_places::NUMBERS],
+    state: Core,
+    listed: &mut [bool; 256],
+    areas: &mut [u16; boundary_lists::AREA_NUMBERS],
+    watch: &mut [u8; 256],
+    misses: &mut [u8; 256],
+    memory: &[u8],
+    turn: &mut [u8],
+    output: &mut [u8],
+) -> Answer
+    requires { ⌜ holdsBlock state ≡ true ⌝ }
+    requires { ⌜ lentRight (now memory) (now turn) (now output) ≡ true ⌝ }
+    ensures { λ _. ⌜ coreIn (now (core .exit)) ≡ coreOf (askOf (stationIn state (now (listed .entry)) (now (areas .entry)) (now (watch .entry)) (now (misses .entry))) (now (memory .entry)) (now (turn .entry)) (now (output .entry)) .station) ⌝ }
+    ensures { λ _. ⌜ now (core .exit) ≡ kept (now (core .entry)) (coreOf (askOf (stationIn state (now (listed .entry)) (now (areas .entry)) (now (watch .entry)) (now (misses .entry))) (now (memory .entry)) (now (turn .entry)) (now (output .entry)) .station)) ⌝ }
+    ensures { λ r. ⌜ r ≡ askedTold (askOf (stationIn state (now (listed .entry)) (now (areas .entry)) (now (watch .entry)) (now (misses .entry))) (now (memory .entry)) (now (turn .entry)) (now (output .entry)) .output) (askOf (stationIn state (now (listed .entry)) (now (areas .entry)) (now (watch .entry)) (now (misses .entry))) (now (memory .entry)) (now (turn .entry)) (now (output .entry)) .answer) ⌝ }
+    ensures { λ _. ⌜ now (turn .exit) ≡ askOf (stationIn state (now (listed .entry)) (now (areas .entry)) (now (watch .entry)) (now (misses .entry))) (now (memory .entry)) (now (turn .entry)) (now (output .entry)) .turn ⌝ }
+    ensures { λ _. ⌜ now (output .exit) ≡ askOf (stationIn state (now (listed .entry)) (now (areas .entry)) (now (watch .entry)) (now (misses .entry))) (now (memory .entry)) (now (turn .entry)) (now (output .entry)) .output ⌝ }
+    ensures { λ _. ⌜ membersIn (now (listed .exit)) (now (areas .exit)) (now (watch .exit)) (now (misses .exit)) ≡ askOf (stationIn state (now (listed .entry)) (now (areas .entry)) (now (watch .entry)) (now (misses .entry))) (now (memory .entry)) (now (turn .entry)) (now (output .entry)) .station .members ⌝ }
+{
+    let asked = boundary_in_place::ask(state, listed, areas, watch, misses, memory, turn, output);
+    let answer = asked.answer;
+    let after = asked.core;
+    keep(core, after);
+    answer
+}
+
+// Writes a frame that is due, but for a block.
+fn write_due(
+    core: Core,
+    listed: &mut [bool; 256],
+    areas: &mut [u16; boundary_lists::AREA_NUMBERS],
+    watch: &mut [u8; 256],
+    misses: &mut [u8; 256],
+    memory: &[u8],
+    turn: &mut [u8],
+    output: &mut [u8],
+) -> Outcome
+    requires { ⌜ lentRight (now memory) (now turn) (now output) ≡ true ⌝ }
+    requires { ⌜ dueCore core ≡ true ⌝ }
+    ensures { λ r. ⌜ r .core ≡ coreOf (askOf (stationIn core (now (listed .entry)) (now (areas .entry)) (now (watch .entry)) (now (misses .entry))) (now (memory .entry)) (now (turn .entry)) (now (output .entry)) .station) ⌝ }
+    ensures { λ r. ⌜ r .answer ≡ askedAnswer (askOf (stationIn core (now (listed .entry)) (now (areas .entry)) (now (watch .entry)) (now (misses .entry))) (now (memory .entry)) (now (turn .entry)) (now (output .entry)) .answer) ⌝ }
+    ensures { λ _. ⌜ now (turn .exit) ≡ askOf (stationIn core (now (listed .entry)) (now (areas .entry)) (now (watch .entry)) (now (misses .entry))) (now (memory .entry)) (now (turn .entry)) (now (output .entry)) .turn ⌝ }
+    ensures { λ _. ⌜ now (output .exit) ≡ askOf (stationIn core (now (listed .entry)) (now (areas .entry)) (now (watch .entry)) (now (misses .entry))) (now (memory .entry)) (now (turn .entry)) (now (output .entry)) .output ⌝ }
+    ensures { λ _. ⌜ membersIn (now (listed .exit)) (now (areas .exit)) (now (watch .exit)) (now (misses .exit)) ≡ askOf (stationIn core (now (listed .entry)) (now (areas .entry)) (now (watch .entry)) (now (misses .entry))) (now (memory .entry)) (now (turn .entry)) (now (output .entry)) .station .members ⌝ }
+{
+    if boundary_requesting::is_requesting(core) {
+        return boundary_requesting::send(core, output);
+    }
+    boundary_whole::ask(core, listed, areas, watch, misses, memory, turn, output)
+}
+
+// A frame that is due, but for a block.
+fn ask_due(
+    core: &mut [u32; boundary_places::NUMBERS],
+    state: Core,
+    listed: &mut [bool; 256],
+    areas: &mut [u16; boundary_lists::AREA_NUMBERS],
+    watch: &mut [u8; 256],
+    misses: &mut [u8; 256],
+    memory: &[u8],
+    turn: &mut [u8],
+    output: &mut [u8],
+) -> Answer
+    requires { ⌜ lentRight (now memory) (now turn) (now output) ≡ true ⌝ }
+    requires { ⌜ dueCore state ≡ true ⌝ }
+    ensures { λ _. ⌜ coreIn (now (core .exit)) ≡ coreOf (askOf (stationIn state (now (listed .entry)) (now (areas .entry)) (now (watch .entry)) (now (misses .entry))) (now (memory .entry)) (now (turn .entry)) (now (output .entry)) .station) ⌝ }
+    ensures { λ _. ⌜ now (core .exit) ≡ kept (now (core .entry)) (coreOf (askOf (stationIn state (now (listed .entry)) (now (areas .entry)) (now (watch .entry)) (now (misses .entry))) (now (memory .entry)) (now (turn .entry)) (now (output .entry)) .station)) ⌝ }
+    ensures { λ r. ⌜ r ≡ askedTold (askOf (stationIn state (now (listed .entry)) (now (areas .entry)) (now (watch .entry)) (now (misses .entry))) (now (memory .entry)) (now (turn .entry)) (now (output .entry)) .output) (askOf (stationIn state (now (listed .entry)) (now (areas .entry)) (now (watch .entry)) (now (misses .entry))) (now (memory .entry)) (now (turn .entry)) (now (output .entry)) .answer) ⌝ }
+    ensures { λ _. ⌜ now (turn .exit) ≡ askOf (stationIn state (now (listed .entry)) (now (areas .entry)) (now (watch .entry)) (now (misses .entry))) (now (memory .entry)) (now (turn .entry)) (now (output .entry)) .turn ⌝ }
+    ensures { λ _. ⌜ now (output .exit) ≡ askOf (stationIn state (now (listed .entry)) (now (areas .entry)) (now (watch .entry)) (now (misses .entry))) (now (memory .entry)) (now (turn .entry)) (now (output .entry)) .output ⌝ }
+    ensures { λ _. ⌜ membersIn (now (listed .exit)) (now (areas .exit)) (now (watch .exit)) (now (misses .exit)) ≡ askOf (stationIn state (now (listed .entry)) (now (areas .entry)) (now (watch .entry)) (now (misses .entry))) (now (memory .entry)) (now (turn .entry)) (now (output .entry)) .station .members ⌝ }
+{
+    let asked = write_due(state, listed, areas, watch, misses, memory, turn, output);
+    let answer = asked.answer;
+    let after = asked.core;
+    keep(core, after);
+    boundary_told::tell_written(answer, output)
+}
+
+pub fn ask(
+    core: &mut [u32; boundary_places::NUMBERS],
+    listed: &mut [bool; 256],
+    areas: &mut [u16; boundary_lists::AREA_NUMBERS],
+    watch: &mut [u8; 256],
+    misses: &mut [u8; 256],
+    memory: &[u8],
+    turn: &mut [u8],
+    output: &mut [u8],
+) -> Answer
+    ensures { λ _. ⌜ coreIn (now (core .exit)) ≡ coreOf (askOf (stationIn (coreIn (now (core .entry))) (now (listed .entry)) (now (areas .entry)) (now (watch .entry)) (now (misses .entry))) (now (memory .entry)) (now (turn .entry)) (now (output .entry)) .station) ⌝ }
+    ensures { λ _. ⌜ now (core .exit) ≡ kept (now (core .entry)) (coreOf (askOf (stationIn (coreIn (now (core .entry))) (now (listed .entry)) (now (areas .entry)) (now (watch .entry)) (now (misses .entry))) (now (memory .entry)) (now (turn .entry)) (now (output .entry)) .station)) ⌝ }
+    ensures { λ r. ⌜ r ≡ askedTold (askOf (stationIn (coreIn (now (core .entry))) (now (listed .entry)) (now (areas .entry)) (now (watch .entry)) (now (misses .entry))) (now (memory .entry)) (now (turn .entry)) (now (output .entry)) .output) (askOf (stationIn (coreIn (now (core .entry))) (now (listed .entry)) (now (areas .entry)) (now (watch .entry)) (now (misses .entry))) (now (memory .entry)) (now (turn .entry)) (now (output .entry)) .answer) ⌝ }
+    ensures { λ _. ⌜ now (turn .exit) ≡ askOf (stationIn (coreIn (now (core .entry))) (now (listed .entry)) (now (areas .entry)) (now (watch .entry)) (now (misses .entry))) (now (memory .entry)) (now (turn .entry)) (now (output .entry)) .turn ⌝ }
+    ensures { λ _. ⌜ now (output .exit) ≡ askOf (stationIn (coreIn (now (core .entry))) (now (listed .entry)) (now (areas .entry)) (now (watch .entry)) (now (misses .entry))) (now (memory .entry)) (now (turn .entry)) (now (output .entry)) .output ⌝ }
+    ensures { λ _. ⌜ membersIn (now (listed .exit)) (now (areas .exit)) (now (watch .exit)) (now (misses .exit)) ≡ askOf (stationIn (coreIn (now (core .entry))) (now (listed .entry)) (now (areas .entry)) (now (watch .entry)) (now (misses .entry))) (now (memory .entry)) (now (turn .entry)) (now (output .entry)) .station .members ⌝ }
+{
+    let lent = asking_placing::is_lent_right(memory, turn, output);
+    let state = boundary_places::core_in(core);
+    if boundary_participant::holds_block(state) & lent {
+        return ask_block(
+            core,
+            state,
+            listed,
+            areas,
+            watch,
+            misses,
+            memory,
+            turn,
+            output,
+        );
+    }
+    if !(lent & boundary_refused::is_due(state)) {
+        return boundary_core::refused(boundary_refused::ask_refusal(lent));
+    }
+    ask_due(
+        core,
+        state,
+        listed,
+        areas,
+        watch,
+        misses,
+        memory,
+        turn,
+        output,
+    )
+}

@@ -1,0 +1,29 @@
+use Rattle.laws.specs.Usual.{arith}
+use borrow.Author.Needs.{needs}
+use Rattle.boundary_places.proofs.with_flag.Statement.{statement}
+use Rattle.boundary_places.proofs.with_flag.Tie as tie
+use Rattle.boundary_places.proofs.with_flag.Reads as reads
+use Rattle.boundary_places.proofs.with_flag.Lts as lts
+
+-- src/lib.rt:105:14
+mul-result : tie.Need-mul-result
+mul-result c = search needs
+
+-- src/lib.rt:105:14
+add-result : tie.Need-add-result
+add-result c = search needs
+
+-- src/lib.rt:105:42
+mul-result-2 : tie.Need-mul-result-2
+mul-result-2 c = search needs
+
+-- src/lib.rt:102:1
+returns : tie.Need-returns
+returns c = rw (c .if1 .taken)
+
+-- src/lib.rt:102:1
+returns-2 : tie.Need-returns-2
+returns-2 c = rw (c .if1 .left) (omega arith)
+
+pub with-flag-spec : {M : Type 1} → statement M
+with-flag-spec = tie.close (tie.spec mul-result add-result mul-result-2 returns returns-2)
