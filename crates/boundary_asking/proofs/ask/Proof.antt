@@ -2,11 +2,12 @@
 use Rattle.laws.specs.Usual.{_≡_, sym, ap, _∙_, false, _&&_, needs}
 use borrow.Author.Tests.{not-true, not-false}
 use Rattle.boundary_answers.specs.Numbers.{refusedAnswer}
+use Rattle.boundary_asking.specs.Carried.{carried}
 use Rattle.boundary_core.specs.Crossing.{coreOf, stationIn, stationOf}
 use Rattle.boundary_core.specs.declared.Core.{Core}
 use Rattle.boundary_lists.specs.Lists.{membersIn}
 use Rattle.boundary_places.specs.Laws.{core-in-back, left-alone}
-use Rattle.boundary_places.specs.Places.{coreIn, kept}
+use Rattle.boundary_places.specs.Places.{coreIn}
 use Rattle.boundary_refused.specs.Due.{dueCore, askRefusal, refused-asked}
 use Rattle.boundary_told.specs.Told.{askedTold}
 use Rattle.laws.specs.Tests.{first, second}
@@ -39,21 +40,8 @@ same-length-2 c = search needs
 returns : tie.Need-returns
 returns c =
     let a = c .before .before .before .before .before .before .before .before .before .before .before .before .before .before .before .before .before .before .before .before .before .before .args in
-    let core = c .before .before .before .before .before .before .before .before .before .before .before .before .before .before .core-in .ensures .0 in
-    let done = c .before .before .before .before .ask-block .ensures in
-    let call : Core → Asking = λ (k : Core). askOf (stationIn k (a .listed .now) (a .areas .now) (a .watch .now) (a .misses .now)) (a .memory .now) (a .turn .now) (a .output .now) in (
-      done .0 ∙ ap (λ (k : Core). coreOf (call k .station)) core,
-      (
-        done .1 .0 ∙ ap (λ (k : Core). kept (a .core .now) (coreOf (call k .station))) core,
-        (
-          done .1 .1 .0 ∙ ap (λ (k : Core). askedTold (call k .output) (call k .answer)) core,
-          (
-            done .1 .1 .1 .0 ∙ ap (λ (k : Core). call k .turn) core,
-            (done .1 .1 .1 .1 .0 ∙ ap (λ (k : Core). call k .output) core, done .1 .1 .1 .1 .1 ∙ ap (λ (k : Core). call k .station .members) core),
-          ),
-        ),
-      ),
-    )
+    let call : Core → Asking = λ (k : Core). askOf (stationIn k (a .listed .now) (a .areas .now) (a .watch .now) (a .misses .now)) (a .memory .now) (a .turn .now) (a .output .now) in
+    carried call (a .core .now) (c .before .before .before .before .before .before .before .before .before .before .before .before .before .before .core-in .ensures .0) (c .before .before .before .before .ask-block .ensures)
 
 is-due-requires : tie.Need-is-due-requires
 is-due-requires c κs = search needs
@@ -109,21 +97,8 @@ same-length-6 c = search needs
 returns-3 : tie.Need-returns-3
 returns-3 c =
     let a = c .before .before .before .before .before .before .before .before .before .before .before .before .before .before .before .before .before .before .before .before .before .before .before .before .args in
-    let core = c .before .before .before .before .before .before .before .before .before .before .before .before .before .before .before .before .core-in .ensures .0 in
-    let done = c .before .before .before .before .ask-due .ensures in
-    let call : Core → Asking = λ (k : Core). askOf (stationIn k (a .listed .now) (a .areas .now) (a .watch .now) (a .misses .now)) (a .memory .now) (a .turn .now) (a .output .now) in (
-      done .0 ∙ ap (λ (k : Core). coreOf (call k .station)) core,
-      (
-        done .1 .0 ∙ ap (λ (k : Core). kept (a .core .now) (coreOf (call k .station))) core,
-        (
-          done .1 .1 .0 ∙ ap (λ (k : Core). askedTold (call k .output) (call k .answer)) core,
-          (
-            done .1 .1 .1 .0 ∙ ap (λ (k : Core). call k .turn) core,
-            (done .1 .1 .1 .1 .0 ∙ ap (λ (k : Core). call k .output) core, done .1 .1 .1 .1 .1 ∙ ap (λ (k : Core). call k .station .members) core),
-          ),
-        ),
-      ),
-    )
+    let call : Core → Asking = λ (k : Core). askOf (stationIn k (a .listed .now) (a .areas .now) (a .watch .now) (a .misses .now)) (a .memory .now) (a .turn .now) (a .output .now) in
+    carried call (a .core .now) (c .before .before .before .before .before .before .before .before .before .before .before .before .before .before .before .before .core-in .ensures .0) (c .before .before .before .before .ask-due .ensures)
 
 pub ask-spec : {M : Type 1} → statement M
 ask-spec =
