@@ -3,7 +3,7 @@
 use boundary_core::Answer;
 use boundary_core::Core;
 use boundary_core::Outcome;
-use boundary_places::keep;
+use boundary_keeping::keep;
 ghost use Rattle.laws.specs.Usual.{_≡_, true};
 ghost use Rattle.boundary_answers.specs.Numbers.{askedAnswer};
 ghost use Rattle.boundary_core.specs.Crossing.{coreOf, stationIn};
@@ -113,7 +113,7 @@ pub fn ask(
     ensures { λ _. ⌜ membersIn (now (listed .exit)) (now (areas .exit)) (now (watch .exit)) (now (misses .exit)) ≡ askOf (stationIn (coreIn (now (core .entry))) (now (listed .entry)) (now (areas .entry)) (now (watch .entry)) (now (misses .entry))) (now (memory .entry)) (now (turn .entry)) (now (output .entry)) .station .members ⌝ }
 {
     let lent = asking_placing::is_lent_right(memory, turn, output);
-    let state = boundary_places::core_in(core);
+    let state = boundary_reading::core_in(core);
     if boundary_participant::holds_block(state) & lent {
         return ask_block(
             core,

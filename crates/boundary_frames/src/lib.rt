@@ -2,8 +2,8 @@
 // hold.
 use boundary_core::Answer;
 use boundary_core::Core;
-use boundary_places::core_in;
-use boundary_places::keep;
+use boundary_keeping::keep;
+use boundary_reading::core_in;
 use boundary_told::tell_read;
 use frame::Fields;
 use frame::Refusal;

@@ -1,8 +1,8 @@
 // Hearing, on the core in numbers and the list in arrays. A refused frame touches neither, but for number 6 before we participate.
 use boundary_core::Answer;
 use boundary_core::refused;
-use boundary_places::core_in;
-use boundary_places::keep;
+use boundary_keeping::keep;
+use boundary_reading::core_in;
 use frame::Fields;
 use frame::Refusal;
 use frame_reading::Read;
@@ -135,7 +135,7 @@ pub fn hear(
             assembly,
         ),
         Read::Refused(refusal) => {
-            boundary_places::leave(core);
+            boundary_keeping::leave(core);
             refused(boundary_refused::heard_refusal(lent, refusal))
         }
     }

@@ -65,7 +65,7 @@ phase-same number = ap (λ (t : Bool). cond t number (withOctet number (phaseIn 
 
 -- The next call goes on from the core that was put in.
 pub kept-core : (numbers : List ℕ) (core : Core) → Fits core → coreIn (kept numbers core) ≡ core
-unfolding kept
+unfolding kept coreIn
 kept-core numbers core fits = rw (
   phase-back (getD numbers 0 0) (core .phase) (fits .phase),
   octet-back (getD numbers 1 0) (core .own .number) (fits .number),
@@ -99,7 +99,7 @@ all-elements (number ∷ numbers) =
 
 -- A core that the numbers hold already changes none of them.
 pub kept-same : (numbers : List ℕ) → length numbers ≡ 18 → kept numbers (coreIn numbers) ≡ numbers
-unfolding kept
+unfolding kept coreIn
 kept-same numbers all =
     ap₂ _∷_ (phase-same (at 0))
     (ap₂ _∷_ (octet-same (at 1))
@@ -160,6 +160,7 @@ withNumber number core = record {
 
 -- A station made of what the numbers hold is held by them.
 pub core-in-back : (numbers : List ℕ) (members : Members) → coreOf (stationOf (coreIn numbers) members) ≡ coreIn numbers
+unfolding coreIn
 core-in-back numbers members =
     ap (λ (number : ℕ). withNumber number (coreIn numbers)) (phase-number-back (phaseIn (getD numbers 0 0)) (phase-in-small (getD numbers 0 0)))
 
@@ -168,6 +169,17 @@ pub put-in : (before after : List ℕ) (core : Core) (station : Station) → cor
     → (core .phase ≤ 4 → coreIn after ≡ core) → (coreIn after ≡ coreOf station) × (after ≡ kept before (coreOf station))
 put-in before after core station is put holds =
     (holds (rw (ap (λ (c : Core). c .phase) is) (small-phase (station .phase))) ∙ is, put ∙ ap (kept before) is)
+
+-- A call on the core that was read out of the numbers, which leaves a core, an answer and a list, and whose core was put back.
+pub call-kept : {Said : Type 0} (station : Core → Station) (said : Core → Said) (before after : List ℕ) (read core : Core) (answer handed : Said)
+    (members : Members) → read ≡ coreIn before
+    → (core ≡ coreOf (station read)) × ((answer ≡ said read) × (members ≡ station read .members))
+    → (after ≡ kept before core) × ((core .phase ≤ 4 → coreIn after ≡ core) × (handed ≡ answer))
+    → (coreIn after ≡ coreOf (station (coreIn before)))
+    × ((after ≡ kept before (coreOf (station (coreIn before)))) × ((handed ≡ said (coreIn before)) × (members ≡ station (coreIn before) .members)))
+call-kept station said before after read core answer handed members e done put =
+    let numbers = put-in before after core (station (coreIn before)) (done .0 ∙ ap (λ (k : Core). coreOf (station k)) e) (put .0) (put .1 .0) in
+    (numbers .0, (numbers .1, (put .1 .1 ∙ done .1 .0 ∙ ap said e, done .1 .1 ∙ ap (λ (k : Core). station k .members) e)))
 
 pub left-alone : (numbers : List ℕ) (station : Station) → length numbers ≡ 18 → coreIn numbers ≡ coreOf station
     → (coreIn numbers ≡ coreOf station) × (numbers ≡ kept numbers (coreOf station))

@@ -42,7 +42,7 @@ panelIn numbers = record {
   gap = record { 0 = getD numbers 17 0 };
 }
 
-abbrev pub coreIn : List ℕ → Core
+unfoldable pub coreIn : List ℕ → Core
 coreIn numbers = record {
   phase = phaseIn (getD numbers 0 0);
   own = settingsIn numbers;

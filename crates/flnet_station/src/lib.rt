@@ -36,7 +36,7 @@ pub extern "C" fn flnet_new(
     ensures { λ _. ⌜ now (core .exit) ≡ replicate 18 0 ⌝ }
     ensures { λ _. ⌜ membersIn (now (listed .exit)) (now (areas .exit)) (now (watch .exit)) (now (misses .exit)) ≡ noMembers ⌝ }
 {
-    boundary_calls::new(core, listed, areas, watch, misses);
+    boundary_switching::new(core, listed, areas, watch, misses);
 }
 
 #[no_mangle]
@@ -53,7 +53,7 @@ pub extern "C" fn flnet_start(
     ensures { λ r. ⌜ r ≡ switchedAnswer (startOf (stationIn (coreIn (now (core .entry))) (now (listed .entry)) (now (areas .entry)) (now (watch .entry)) (now (misses .entry))) own .answer) ⌝ }
     ensures { λ _. ⌜ membersIn (now (listed .exit)) (now (areas .exit)) (now (watch .exit)) (now (misses .exit)) ≡ startOf (stationIn (coreIn (now (core .entry))) (now (listed .entry)) (now (areas .entry)) (now (watch .entry)) (now (misses .entry))) own .station .members ⌝ }
 {
-    boundary_calls::start(core, listed, areas, watch, misses, own)
+    boundary_switching::start(core, listed, areas, watch, misses, own)
 }
 
 #[no_mangle]
@@ -69,7 +69,7 @@ pub extern "C" fn flnet_stop(
     ensures { λ r. ⌜ r ≡ switchedAnswer (stopOf (stationIn (coreIn (now (core .entry))) (now (listed .entry)) (now (areas .entry)) (now (watch .entry)) (now (misses .entry))) .answer) ⌝ }
     ensures { λ _. ⌜ membersIn (now (listed .exit)) (now (areas .exit)) (now (watch .exit)) (now (misses .exit)) ≡ stopOf (stationIn (coreIn (now (core .entry))) (now (listed .entry)) (now (areas .entry)) (now (watch .entry)) (now (misses .entry))) .station .members ⌝ }
 {
-    boundary_calls::stop(core, listed, areas, watch, misses)
+    boundary_switching::stop(core, listed, areas, watch, misses)
 }
 
 #[no_mangle]
@@ -85,7 +85,7 @@ pub extern "C" fn flnet_tick(
     ensures { λ r. ⌜ r ≡ tickedAnswer (tickOf (stationIn (coreIn (now (core .entry))) (now (listed .entry)) (now (areas .entry)) (now (watch .entry)) (now (misses .entry))) .answer) ⌝ }
     ensures { λ _. ⌜ membersIn (now (listed .exit)) (now (areas .exit)) (now (watch .exit)) (now (misses .exit)) ≡ tickOf (stationIn (coreIn (now (core .entry))) (now (listed .entry)) (now (areas .entry)) (now (watch .entry)) (now (misses .entry))) .station .members ⌝ }
 {
-    boundary_calls::tick(core, listed, areas, watch, misses)
+    boundary_ticks::tick(core, listed, areas, watch, misses)
 }
 
 // So many ticks one after the other.
@@ -103,7 +103,7 @@ pub extern "C" fn flnet_ticks(
     ensures { λ r. ⌜ r ≡ tickedAnswer (ticksOf count (stationIn (coreIn (now (core .entry))) (now (listed .entry)) (now (areas .entry)) (now (watch .entry)) (now (misses .entry))) .answer) ⌝ }
     ensures { λ _. ⌜ membersIn (now (listed .exit)) (now (areas .exit)) (now (watch .exit)) (now (misses .exit)) ≡ ticksOf count (stationIn (coreIn (now (core .entry))) (now (listed .entry)) (now (areas .entry)) (now (watch .entry)) (now (misses .entry))) .station .members ⌝ }
 {
-    boundary_calls::ticks(core, listed, areas, watch, misses, count)
+    boundary_ticks::ticks(core, listed, areas, watch, misses, count)
 }
 
 // How many ticks can come, with no call between, before one brings news. Of the list only the flags matter to it.
@@ -111,7 +111,7 @@ pub extern "C" fn flnet_ticks(
 pub extern "C" fn flnet_quiet(core: &[u32; boundary_places::NUMBERS], listed: &[bool; 256]) -> Quiet
     ensures { λ r. ⌜ ((areas watch misses : List ℕ) → r ≡ quietNumbers (quietOf (stationIn (coreIn (now (core .entry))) (now (listed .entry)) areas watch misses))) ⌝ }
 {
-    boundary_calls::quiet_ticks(core, listed)
+    boundary_inspecting::quiet_ticks(core, listed)
 }
 
 #[no_mangle]
@@ -161,5 +161,5 @@ pub extern "C" fn flnet_ask(
 pub extern "C" fn flnet_show(core: &[u32; boundary_places::NUMBERS]) -> Shown
     ensures { λ r. ⌜ r ≡ figureNumbers (figureIn (coreIn (now (core .entry)))) ⌝ }
 {
-    boundary_calls::show(core)
+    boundary_inspecting::show(core)
 }

@@ -1,0 +1,97 @@
+// A core put into the numbers that C keeps, in place.
+use boundary_core::Answer;
+use boundary_core::Core;
+use boundary_core::Outcome;
+use boundary_places::NUMBERS;
+use boundary_reading::phase_in;
+ghost use Rattle.laws.specs.Usual.{_≡_, _≤_, length};
+ghost use Rattle.boundary_places.specs.Places.{coreIn, withOctet, withOctets, withFlag, withPhase, kept};
+
+fn are_eighteen(numbers: &[u32])
+    requires { ⌜ length (now numbers) ≡ 18 ⌝ }
+    ensures { λ _. ⌜ length (now (numbers .entry)) ≡ 18 ⌝ }
+{}
+
+// Nothing is done to the numbers. A proof is told here how many they are.
+pub fn leave(numbers: &[u32; NUMBERS])
+    ensures { λ _. ⌜ length (now (numbers .entry)) ≡ 18 ⌝ }
+{
+    are_eighteen(numbers);
+}
+
+fn with_octet(number: u32, low: u8) -> u32
+    ensures { λ r. ⌜ r ≡ withOctet number low ⌝ }
+{
+    number / 256 * 256 + low as u32
+}
+
+fn with_octets(number: u32, low: u16) -> u32
+    ensures { λ r. ⌜ r ≡ withOctets number low ⌝ }
+{
+    number / 65536 * 65536 + low as u32
+}
+
+fn with_flag(number: u32, low: bool) -> u32
+    ensures { λ r. ⌜ r ≡ withFlag number low ⌝ }
+{
+    if low {
+        number / 2 * 2 + 1
+    } else {
+        number / 2 * 2
+    }
+}
+
+fn with_phase(number: u32, phase: u8) -> u32
+    ensures { λ r. ⌜ r ≡ withPhase number phase ⌝ }
+{
+    if phase_in(number) == phase {
+        number
+    } else {
+        with_octet(number, phase)
+    }
+}
+
+fn put(numbers: &mut [u32; NUMBERS], core: Core)
+    ensures { λ _. ⌜ now (numbers .exit) ≡ kept (now (numbers .entry)) core ⌝ }
+{
+    *numbers = [
+        with_phase(numbers[0], core.phase),
+        with_octet(numbers[1], core.own.number),
+        with_octets(numbers[2], core.own.areas.one.address),
+        with_octets(numbers[3], core.own.areas.one.size),
+        with_octets(numbers[4], core.own.areas.two.address),
+        with_octets(numbers[5], core.own.areas.two.size),
+        with_octet(numbers[6], core.own.watch.0),
+        with_octet(numbers[7], core.view),
+        with_octet(numbers[8], core.block),
+        core.elapsed.0,
+        core.waited.0,
+        with_octet(numbers[11], core.rounds),
+        with_flag(numbers[12], core.sent),
+        with_octet(numbers[13], core.gathering.source),
+        with_octet(numbers[14], core.gathering.blocks),
+        with_octet(numbers[15], core.panel.takings),
+        core.panel.running.0,
+        core.panel.gap.0,
+    ];
+}
+
+// Puts a core into the numbers, which hold it then if its phase is one of the five.
+pub fn keep(numbers: &mut [u32; NUMBERS], core: Core)
+    ensures { λ _. ⌜ now (numbers .exit) ≡ kept (now (numbers .entry)) core ⌝ }
+    ensures { λ _. ⌜ (core .phase ≤ 4 → coreIn (now (numbers .exit)) ≡ core) ⌝ }
+{
+    put(numbers, core);
+}
+
+// Puts the core that a call leaves into the numbers, and hands its answer on.
+pub fn keep_outcome(numbers: &mut [u32; NUMBERS], outcome: Outcome) -> Answer
+    ensures { λ _. ⌜ now (numbers .exit) ≡ kept (now (numbers .entry)) (outcome .core) ⌝ }
+    ensures { λ _. ⌜ (outcome .core .phase ≤ 4 → coreIn (now (numbers .exit)) ≡ outcome .core) ⌝ }
+    ensures { λ r. ⌜ r ≡ outcome .answer ⌝ }
+{
+    let answer = outcome.answer;
+    let after = outcome.core;
+    keep(numbers, after);
+    answer
+}

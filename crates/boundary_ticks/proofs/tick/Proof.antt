@@ -1,0 +1,30 @@
+-- `boundary_ticks::tick` meets its contract.
+use Rattle.laws.specs.Usual.{needs}
+use Rattle.boundary_answers.specs.Numbers.{tickedAnswer}
+use Rattle.boundary_core.specs.Crossing.{stationIn}
+use Rattle.boundary_core.specs.declared.Core.{Core}
+use Rattle.boundary_places.specs.Laws.{call-kept}
+use Rattle.station.specs.Rules.Ticking.{Ticking, tickOf}
+use Rattle.boundary_ticks.proofs.tick.Statement.{statement}
+use Rattle.boundary_ticks.proofs.tick.Tie as tie
+
+core-in-requires : tie.Need-core-in-requires
+core-in-requires c κs = search needs
+
+tick-requires : tie.Need-tick-requires
+tick-requires c κs = search needs
+
+keep-outcome-requires : tie.Need-keep-outcome-requires
+keep-outcome-requires c κs = search needs
+
+returns : tie.Need-returns
+returns c =
+    let a = c .before .before .before .before .before .before .before .before .before .args in
+    let call : Core → Ticking = λ (k : Core). tickOf (stationIn k (a .listed .now) (a .areas .now) (a .watch .now) (a .misses .now)) in
+    call-kept (λ (k : Core). call k .station) (λ (k : Core). tickedAnswer (call k .answer)) _ _ _ _ _ _ _
+    (c .before .before .before .before .before .before .core-in .ensures .0)
+    (c .before .tick .ensures)
+    (c .keep-outcome .ensures)
+
+pub tick-spec : {M : Type 1} → statement M
+tick-spec = tie.close (tie.spec core-in-requires tick-requires keep-outcome-requires returns)
