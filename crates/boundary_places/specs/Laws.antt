@@ -52,6 +52,13 @@ flag-same number = by (flag number) refl
     by true e = let odd : number % 2 ≡ 1 = eqb-true (number % 2) 1 e in omega arith
     by false e = let even : number % 2 ≡ 1 → ⊥ = eqb-false (number % 2) 1 e in omega arith
 
+phase-in-small : (number : ℕ) → phaseIn number ≤ 4
+phase-in-small number = by (leb (octet number) 4) refl
+  where
+    by : (small : Bool) → leb (octet number) 4 ≡ small → cond small (octet number) 0 ≤ 4
+    by true e = leb-true (octet number) 4 e
+    by false e = omega arith
+
 phase-back : (number phase : ℕ) → phase ≤ 4 → phaseIn (withPhase number phase) ≡ phase
 phase-back number phase small = by (eqb (phaseIn number) phase) refl
   where
@@ -136,13 +143,6 @@ phase-number-back (suc (suc zero)) small = refl
 phase-number-back (suc (suc (suc zero))) small = refl
 phase-number-back (suc (suc (suc (suc zero)))) small = refl
 phase-number-back (suc (suc (suc (suc (suc n))))) small = absurd (omega arith)
-
-phase-in-small : (number : ℕ) → phaseIn number ≤ 4
-phase-in-small number = by (leb (octet number) 4) refl
-  where
-    by : (small : Bool) → leb (octet number) 4 ≡ small → cond small (octet number) 0 ≤ 4
-    by true e = leb-true (octet number) 4 e
-    by false e = omega arith
 
 abbrev withNumber : ℕ → Core → Core
 withNumber number core = record {

@@ -16,7 +16,7 @@ octet-of-requires-2 : tie.Need-octet-of-requires-2
 octet-of-requires-2 c κs = search needs
 
 returns : tie.Need-returns
-returns c = cc
+returns c = rw (c .octet-of2 .ensures, c .before .before .octet-of .ensures)
 
 pub gathering-in-spec : {M : Type 1} → statement M
 gathering-in-spec =

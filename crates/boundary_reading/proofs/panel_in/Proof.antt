@@ -16,7 +16,7 @@ shared-slice-read-t9 : tie.Need-shared-slice-read-t9
 shared-slice-read-t9 c = search needs
 
 returns : tie.Need-returns
-returns c = cc
+returns c = rw (c .before .before .octet-of .ensures)
 
 pub panel-in-spec : {M : Type 1} → statement M
 panel-in-spec =

@@ -51,7 +51,7 @@ flag-of-requires c κs = search needs
 
 returns : tie.Need-returns
 unfolding coreIn
-returns c = cc
+returns c = rw (c .flag-of .ensures, c .before .before .octet-of3 .ensures, c .before .before .before .before .before .before .octet-of2 .ensures, c .before .before .before .before .before .before .before .before .octet-of .ensures, c .before .before .before .before .before .before .before .before .before .before .phase-in .ensures, c .before .before .before .before .before .before .before .before .before .before .before .before .gathering-in .ensures, c .before .before .before .before .before .before .before .before .before .before .before .before .before .panel-in .ensures, c .before .before .before .before .before .before .before .before .before .before .before .before .before .before .settings-in .ensures)
 
 pub read-spec : {M : Type 1} → statement M
 read-spec =

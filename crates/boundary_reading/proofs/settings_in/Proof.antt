@@ -40,7 +40,7 @@ octet-of-requires-2 : tie.Need-octet-of-requires-2
 octet-of-requires-2 c κs = search needs
 
 returns : tie.Need-returns
-returns c = cc
+returns c = rw (c .octet-of2 .ensures, c .before .before .octet-of .ensures, c .before .before .before .before .octets-of4 .ensures, c .before .before .before .before .before .before .octets-of3 .ensures, c .before .before .before .before .before .before .before .before .octets-of2 .ensures, c .before .before .before .before .before .before .before .before .before .before .octets-of .ensures)
 
 pub settings-in-spec : {M : Type 1} → statement M
 settings-in-spec =
