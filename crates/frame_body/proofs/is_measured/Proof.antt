@@ -16,7 +16,7 @@ header-part-requires : tie.Need-header-part-requires
 header-part-requires c κs = search needs
 
 returns : tie.Need-returns
-returns c = cc
+returns c = rw (c .before .before .block-length .ensures, c .header-part .ensures)
 
 pub is-measured-spec : {M : Type 1} → statement M
 is-measured-spec = tie.close (tie.spec cast-size block-length-requires cast-header-part header-part-requires returns)

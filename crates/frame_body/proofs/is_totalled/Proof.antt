@@ -10,7 +10,7 @@ blocks-requires : tie.Need-blocks-requires
 blocks-requires c κs = search needs
 
 returns : tie.Need-returns
-returns c = cc
+returns c = rw (c .blocks2 .ensures)
 
 pub is-totalled-spec : {M : Type 1} → statement M
 is-totalled-spec = tie.close (tie.spec cast-result blocks-requires returns)
