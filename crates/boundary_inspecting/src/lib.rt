@@ -2,13 +2,11 @@
 use boundary_figure::Shown;
 use boundary_quiet::Quiet;
 use boundary_reading::core_in;
-ghost use Rattle.laws.specs.Usual.{_≡_, List, ℕ, replicate};
-ghost use Rattle.boundary_core.specs.Crossing.{coreOf, stationIn, figureIn};
+ghost use Rattle.laws.specs.Usual.{_≡_, List, ℕ};
+ghost use Rattle.boundary_core.specs.Crossing.{stationIn, figureIn};
 ghost use Rattle.boundary_figure.specs.Figures.{figureNumbers};
 ghost use Rattle.boundary_places.specs.Places.{coreIn};
 ghost use Rattle.boundary_quiet.specs.Numbers.{quietNumbers};
-ghost use Rattle.station.specs.Rules.State.{never};
-ghost use Rattle.station.specs.Rules.Ticking.{tickOf};
 ghost use Rattle.ticking_quiet.specs.Quiet.{quietOf};
 
 pub fn quiet_ticks(core: &[u32; boundary_places::NUMBERS], listed: &[bool; 256]) -> Quiet

@@ -40,6 +40,7 @@ pub fn phase_in(number: u32) -> u8
     }
 }
 
+// The numbers are read as a slice, since a proof is told the length of a slice, and not of an array behind a reference.
 fn settings_in(numbers: &[u32]) -> Settings
     requires { ⌜ length (now numbers) ≡ 18 ⌝ }
     ensures { λ r. ⌜ r ≡ settingsIn (now (numbers .entry)) ⌝ }

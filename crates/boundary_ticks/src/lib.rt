@@ -2,13 +2,12 @@
 use boundary_core::Answer;
 use boundary_keeping::keep_outcome;
 use boundary_reading::core_in;
-ghost use Rattle.laws.specs.Usual.{_≡_, replicate};
+ghost use Rattle.laws.specs.Usual.{_≡_};
 ghost use Rattle.boundary_answers.specs.Numbers.{tickedAnswer};
 ghost use Rattle.boundary_core.specs.Crossing.{coreOf, stationIn};
 ghost use Rattle.boundary_lists.specs.Lists.{membersIn};
 ghost use Rattle.boundary_places.specs.Places.{coreIn, kept};
 ghost use Rattle.station.specs.Rules.Ticking.{tickOf};
-ghost use Rattle.station.specs.Rules.Starting.{stopOf};
 ghost use Rattle.ticking_quiet.specs.Many.{ticksOf};
 
 pub fn tick(
