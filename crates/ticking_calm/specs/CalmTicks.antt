@@ -9,6 +9,7 @@ use Rattle.station.specs.Rules.Ticking.{later, waitEnds, tickedBy, tickOf}
 use Rattle.station.specs.Rules.Waits.{detectionWait, acceptanceTime, numberWait, longestWatch, watchTicks}
 use Rattle.station.specs.declared.Phase.{Phase}
 use Rattle.station.specs.declared.Phase.the-variants.{Off, Listening, Startup, Joining, Participating}
+use Rattle.station.specs.declared.Settings.{Settings}
 use Rattle.station.specs.declared.Station.{Station}
 use Rattle.units.specs.declared.Ticks.{Ticks}
 use Rattle.ticking_quiet.specs.Many.{afterTicks}
@@ -151,12 +152,9 @@ calm-ticks station count (suc ticks) h =
     ∙ calm-tick station count ticks (omega arith)
 
 -- no more of them than were asked about
-pub calm-few : (station : Station) (count : ℕ) → calmOf station count ≤ count
-calm-few station count = by (station .phase)
-  where
-    by : (phase : Phase) → calmIn phase (station .own) (station .rounds) (station .elapsed) (station .waited) count ≤ count
-    by Off = le-refl count
-    by Listening = le-refl count
-    by Startup = omega arith
-    by Joining = omega arith
-    by Participating = omega arith
+pub calm-few : (phase : Phase) (own : Settings) (rounds : ℕ) (elapsed waited : Ticks) (count : ℕ) → calmIn phase own rounds elapsed waited count ≤ count
+calm-few Off own rounds elapsed waited count = le-refl count
+calm-few Listening own rounds elapsed waited count = le-refl count
+calm-few Startup own rounds elapsed waited count = omega arith
+calm-few Joining own rounds elapsed waited count = omega arith
+calm-few Participating own rounds elapsed waited count = omega arith

@@ -13,9 +13,6 @@ holds-requires c κs = search needs
 returns : tie.Need-returns
 returns c = rw (← c .before .before .is-participating .ensures, ← c .before .holds .ensures, not-true (c .before .before .is-participating .result && c .before .holds .result) (c .if1 .taken))
 
-watch-ticks-requires : tie.Need-watch-ticks-requires
-watch-ticks-requires c κs = search needs
-
 next-after-requires : tie.Need-next-after-requires
 next-after-requires c κs = search needs
 
@@ -24,7 +21,7 @@ is-listed-requires c κs = search needs
 
 returns-2 : tie.Need-returns-2
 returns-2 c =
-    rw (c .before .before .is-listed .ensures, c .before .before .before .next-after .ensures, c .before .before .before .before .watch-ticks .ensures, ← c .before .before .before .before .before .before .before .is-participating .ensures, ← c .before .before .before .before .before .before .holds .ensures, not-false (c .before .before .before .before .before .before .before .is-participating .result && c .before .before .before .before .before .before .holds .result) (c .before .before .before .before .before .if1 .left))
+    rw (c .is-listed .ensures, c .before .next-after .ensures, ← c .before .before .before .before .is-participating .ensures, ← c .before .before .before .holds .ensures, not-false (c .before .before .before .before .is-participating .result && c .before .before .before .holds .result) (c .before .before .if1 .left))
 
 pub is-alone-spec : {M : Type 1} → statement M
 is-alone-spec =
@@ -33,7 +30,6 @@ is-alone-spec =
     is-participating-requires
     holds-requires
     returns
-    watch-ticks-requires
     next-after-requires
     is-listed-requires
     returns-2)

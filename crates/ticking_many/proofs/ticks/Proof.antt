@@ -1,9 +1,8 @@
 -- `ticking_many::ticks` meets its contract.
-use Rattle.laws.specs.Usual.{_≡_, refl, sym, ap, _∙_, ℕ, suc, _+_, _-_, arith}
+use Rattle.laws.specs.Usual.{_≡_, refl, sym, ap, _∙_, ℕ, arith}
 use Rattle.ticking_quiet.specs.Many.{afterTicks}
-use Rattle.ticking_quiet.specs.ManyLaws.{one-more, some-more, ticks-station, ticks-answer}
-use Rattle.station.specs.Rules.Ticking.{tickOf}
-use Rattle.station.specs.declared.Station.{Station}
+use Rattle.ticking_quiet.specs.ManyLaws.{ticks-station, ticks-answer}
+use Rattle.ticking_jump.specs.JumpTicks.{tick-on}
 use Rattle.ticking_many.proofs.ticks.Statement.{statement}
 use Rattle.ticking_many.proofs.ticks.Tie as tie
 
@@ -35,12 +34,7 @@ loop-again : tie.Need-loop-again Inv-loop μ-loop
 loop-again c =
     let at = c .before .before .before .before .before .loop in
     let jumped = c .before .before .before .jump in
-    let passed = at .left - 1 - jumped .result .ticks in
-    let all : suc passed + jumped .result .ticks ≡ at .left = omega (arith, jumped .ensures .0) in
-    let ticked = c .before .tick .ensures .0 ∙ ap (λ (s : Station). tickOf s .station) (jumped .ensures .1) ∙ one-more passed (at .after) in
-    ap (afterTicks (jumped .result .ticks)) ticked
-    ∙ some-more (suc passed) (jumped .result .ticks) (at .after)
-    ∙ ap (λ (n : ℕ). afterTicks n (at .after)) all
+    tick-on (at .after) (jumped .result .station) (c .before .tick .result .station) (at .left) (jumped .result .ticks) (omega arith) (jumped .ensures .0) (jumped .ensures .1) (c .before .tick .ensures .0)
     ∙ at .inv
 
 returns : tie.Need-returns Inv-loop μ-loop

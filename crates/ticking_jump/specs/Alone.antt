@@ -1,6 +1,6 @@
 -- A participant that holds and is alone: whenever its watch ends, it is its own next, and the watch restarts. Its ticks go round its watch. Assumes
 -- nothing.
-use Rattle.laws.specs.Usual.{_≡_, refl, sym, ap, _∙_, Bool, true, false, not, _&&_, false≢true, ℕ, suc, _+_, _*_, _/_, _%_, _<_, _≤_, min, arith, eqb, leb, ltb}
+use Rattle.laws.specs.Usual.{_≡_, refl, sym, ap, _∙_, Bool, true, false, not, _&&_, false≢true, ℕ, suc, _+_, _*_, _/_, _%_, _<_, _≤_, min, arith, eqb, leb}
 use Prim.Native.Nat.{zero}
 use native.Mathlib.Nat.{div-add-mod', mod-lt, mod-eq-of-lt, suc-mul}
 use borrow.Author.Tests.{eqb-true, eq-eqb, ltb-true, leb-true, leb-false, not-true}
@@ -13,25 +13,13 @@ use Rattle.station.specs.Rules.Waits.{longestWatch}
 use Rattle.station.specs.declared.Phase.{Phase}
 use Rattle.station.specs.declared.Phase.the-variants.{Off, Listening, Startup, Joining, Participating}
 use Rattle.station.specs.declared.Station.{Station}
-use Rattle.units.specs.declared.Ticks.{Ticks}
 use Rattle.ticking_quiet.specs.Many.{afterTicks}
 use Rattle.ticking_quiet.specs.ManyLaws.{one-more}
-use Rattle.ticking_calm.specs.Calm.{tickedBy, countsAfter, countsOf}
-
--- it holds, nobody comes after it, and its own number is not listed; its watch has not run past its time, which is where calls alone made the state
-abbrev pub isAlone : Station → Bool
-isAlone station =
-    (isParticipating (station .phase) && holds station)
-    && ((eqb (nextAfter (station .own .number) (station .members) (station .own .number)) (station .own .number)
-    && not (isListed (station .members) (station .own .number)))
-    && ltb (station .elapsed .0) (watchOf station))
-
--- ticks around the watch
-abbrev pub roundBy : ℕ → ℕ → Ticks → Ticks
-roundBy watch count elapsed = record { 0 = (elapsed .0 + count) % watch }
+use Rattle.ticking_calm.specs.Calm.{countsOf, withCounts}
+use Rattle.ticking_jump.specs.Jump.{isAlone, inTime, roundAfter}
 
 abbrev pub aloneAfter : ℕ → Station → Station
-aloneAfter count station = counted station (station .own) (roundBy (watchOf station) count (station .elapsed)) (station .waited) (tickedBy count (station .panel))
+aloneAfter count station = withCounts station (roundAfter (station .own) (countsOf station) count)
 
 -- one tick more around: the watch ends, or not
 module _ (watch elapsed count : ℕ) (some : 0 < watch) where
@@ -44,20 +32,20 @@ module _ (watch elapsed count : ℕ) (some : 0 < watch) where
   parts : rounds * watch + place ≡ elapsed + count
   parts = div-add-mod' (elapsed + count) watch
 
-  pub ended : watch ≤ place + 1 → (elapsed + suc count) % watch ≡ 0
+  ended : watch ≤ place + 1 → (elapsed + suc count) % watch ≡ 0
   ended h =
       let below = mod-lt (elapsed + count) some in
       let full : elapsed + suc count ≡ (rounds * watch + watch) + 0 = omega (arith, parts, below) in
       let more : elapsed + suc count ≡ suc rounds * watch + 0 = full ∙ ap (λ (n : ℕ). n + 0) (sym (suc-mul rounds watch)) in
       ap (λ (n : ℕ). n % watch) more ∙ digits-mod (suc rounds) some
 
-  pub goes-on : place + 1 < watch → (elapsed + suc count) % watch ≡ place + 1
+  goes-on : place + 1 < watch → (elapsed + suc count) % watch ≡ place + 1
   goes-on h =
       let more : elapsed + suc count ≡ rounds * watch + (place + 1) = omega (arith, parts) in
       ap (λ (n : ℕ). n % watch) more ∙ digits-mod rounds h
 
 -- what is known of a station that is alone
-module _ (station : Station) (alone : isAlone station ≡ true) where
+module _ (station : Station) (alone : (isAlone station && inTime (station .own) (countsOf station)) ≡ true) where
   abbrev ours : ℕ
   ours = station .own .number
 
@@ -67,11 +55,11 @@ module _ (station : Station) (alone : isAlone station ≡ true) where
   abbrev nobody-else : Bool
   nobody-else = eqb (nextAfter ours (station .members) ours) ours && not (isListed (station .members) ours)
 
-  abbrev in-time : Bool
-  in-time = ltb (station .elapsed .0) (watchOf station)
+  left-alone : (held && nobody-else) ≡ true
+  left-alone = first (held && nobody-else) (inTime (station .own) (countsOf station)) alone
 
   participates : station .phase ≡ Participating
-  participates = by (station .phase) (first (isParticipating (station .phase)) (holds station) (first held (nobody-else && in-time) alone))
+  participates = by (station .phase) (first (isParticipating (station .phase)) (holds station) (first held nobody-else left-alone))
     where
       by : (phase : Phase) → isParticipating phase ≡ true → phase ≡ Participating
       by Off e = absurd (false≢true e)
@@ -81,22 +69,16 @@ module _ (station : Station) (alone : isAlone station ≡ true) where
       by Participating e = refl
 
   views-itself : station .view ≡ ours
-  views-itself = eqb-true (station .view) ours (second (isParticipating (station .phase)) (holds station) (first held (nobody-else && in-time) alone))
-
-  left-alone : nobody-else ≡ true
-  left-alone = first nobody-else in-time (second held (nobody-else && in-time) alone)
+  views-itself = eqb-true (station .view) ours (second (isParticipating (station .phase)) (holds station) (first held nobody-else left-alone))
 
   own-next : nextAfter ours (station .members) ours ≡ ours
-  own-next = eqb-true (nextAfter ours (station .members) ours) ours (first (eqb (nextAfter ours (station .members) ours) ours) (not (isListed (station .members) ours)) left-alone)
+  own-next = eqb-true (nextAfter ours (station .members) ours) ours (first (eqb (nextAfter ours (station .members) ours) ours) (not (isListed (station .members) ours)) (second held nobody-else left-alone))
 
   not-listed : isListed (station .members) ours ≡ false
-  not-listed = not-true (isListed (station .members) ours) (second (eqb (nextAfter ours (station .members) ours) ours) (not (isListed (station .members) ours)) left-alone)
+  not-listed = not-true (isListed (station .members) ours) (second (eqb (nextAfter ours (station .members) ours) ours) (not (isListed (station .members) ours)) (second held nobody-else left-alone))
 
-  pub short : station .elapsed .0 < watchOf station
-  short = ltb-true (station .elapsed .0) (watchOf station) (second nobody-else in-time (second held (nobody-else && in-time) alone))
-
-  pub panel-on : (count : ℕ) → countsAfter (station .phase) (station .own) (station .rounds) count (countsOf station) .panel ≡ tickedBy count (station .panel)
-  panel-on count = rw participates
+  short : station .elapsed .0 < watchOf station
+  short = ltb-true (station .elapsed .0) (watchOf station) (second (held && nobody-else) (inTime (station .own) (countsOf station)) alone)
 
   module _ (few : station .own .watch .0 < 256) where
     abbrev turn : ℕ → ℕ

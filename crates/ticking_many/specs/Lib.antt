@@ -1,2 +1,0 @@
--- The ticks of a station that holds and is alone.
-pub mod Alone
