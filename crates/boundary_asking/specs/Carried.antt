@@ -1,5 +1,5 @@
 -- What an asking leaves, of a core that was read out of the numbers, is what it leaves of the core that they hold. Assumes nothing.
-use Rattle.laws.specs.Usual.{_≡_, ap, _∙_, List, ℕ}
+use Rattle.laws.specs.Usual.{_≡_, sym, ap, subst, _∙_, List, ℕ}
 use Rattle.boundary_answers.specs.declared.Answer.{Answer}
 use Rattle.boundary_core.specs.Crossing.{coreOf}
 use Rattle.boundary_core.specs.declared.Core.{Core}
@@ -31,3 +31,9 @@ carried call before e left = (
     ),
   ),
 )
+
+-- likewise where it is known what the asking is
+pub carried-known : (call : Core → Asking) (before : List ℕ) {read held : Core} {after turn output : List ℕ} {answer : Answer} {members : Members} {asking : Asking}
+    → read ≡ held → call read ≡ asking → Leaves before after answer turn output members asking → Leaves before after answer turn output members (call held)
+carried-known call before {after = after} {turn} {output} {answer} {members} e law left =
+    carried call before e (subst (λ (t : Asking). Leaves before after answer turn output members t) (sym law) left)

@@ -2,17 +2,17 @@
 // given is what the numbers hold.
 use boundary_core::Answer;
 use boundary_core::Core;
-use boundary_core::Outcome;
 use boundary_keeping::keep;
-ghost use Rattle.laws.specs.Usual.{_≡_, true};
-ghost use Rattle.boundary_answers.specs.Numbers.{askedAnswer};
+ghost use Rattle.laws.specs.Usual.{_≡_, true, [], _≤_, length};
+ghost use Rattle.boundary_bare.specs.Bare.{bareFields, afterBare};
 ghost use Rattle.boundary_core.specs.Crossing.{coreOf, stationIn};
 ghost use Rattle.boundary_lists.specs.Lists.{membersIn};
 ghost use Rattle.boundary_participant.specs.Quick.{holdsBlock};
 ghost use Rattle.boundary_places.specs.Places.{coreIn, kept};
-ghost use Rattle.boundary_refused.specs.Due.{dueCore};
 ghost use Rattle.boundary_told.specs.Told.{askedTold};
+ghost use Rattle.frame_writing.specs.Writing.{wholeLength, outputOf};
 ghost use Rattle.station.specs.Rules.Asking.{lentRight, askOf};
+ghost use Rattle.station.specs.declared.Asked.the-variants.{Octets};
 
 // A holder's block.
 fn ask_block(
@@ -42,53 +42,24 @@ fn ask_block(
     answer
 }
 
-// Writes a frame that is due, but for a block.
-fn write_due(
-    core: Core,
-    listed: &mut [bool; 256],
-    areas: &mut [u16; boundary_lists::AREA_NUMBERS],
-    watch: &mut [u8; 256],
-    misses: &mut [u8; 256],
-    memory: &[u8],
-    turn: &mut [u8],
-    output: &mut [u8],
-) -> Outcome
-    requires { ⌜ lentRight (now memory) (now turn) (now output) ≡ true ⌝ }
-    requires { ⌜ dueCore core ≡ true ⌝ }
-    ensures { λ r. ⌜ r .core ≡ coreOf (askOf (stationIn core (now (listed .entry)) (now (areas .entry)) (now (watch .entry)) (now (misses .entry))) (now (memory .entry)) (now (turn .entry)) (now (output .entry)) .station) ⌝ }
-    ensures { λ r. ⌜ r .answer ≡ askedAnswer (askOf (stationIn core (now (listed .entry)) (now (areas .entry)) (now (watch .entry)) (now (misses .entry))) (now (memory .entry)) (now (turn .entry)) (now (output .entry)) .answer) ⌝ }
-    ensures { λ _. ⌜ now (turn .exit) ≡ askOf (stationIn core (now (listed .entry)) (now (areas .entry)) (now (watch .entry)) (now (misses .entry))) (now (memory .entry)) (now (turn .entry)) (now (output .entry)) .turn ⌝ }
-    ensures { λ _. ⌜ now (output .exit) ≡ askOf (stationIn core (now (listed .entry)) (now (areas .entry)) (now (watch .entry)) (now (misses .entry))) (now (memory .entry)) (now (turn .entry)) (now (output .entry)) .output ⌝ }
-    ensures { λ _. ⌜ membersIn (now (listed .exit)) (now (areas .exit)) (now (watch .exit)) (now (misses .exit)) ≡ askOf (stationIn core (now (listed .entry)) (now (areas .entry)) (now (watch .entry)) (now (misses .entry))) (now (memory .entry)) (now (turn .entry)) (now (output .entry)) .station .members ⌝ }
-{
-    if boundary_requesting::is_requesting(core) {
-        return boundary_requesting::send(core, output);
-    }
-    boundary_whole::ask(core, listed, areas, watch, misses, memory, turn, output)
-}
-
-// A frame that is due, but for a block.
-fn ask_due(
+// A frame without data.
+fn ask_bare(
     core: &mut [u32; boundary_places::NUMBERS],
     state: Core,
     listed: &mut [bool; 256],
     areas: &mut [u16; boundary_lists::AREA_NUMBERS],
     watch: &mut [u8; 256],
     misses: &mut [u8; 256],
-    memory: &[u8],
-    turn: &mut [u8],
     output: &mut [u8],
 ) -> Answer
-    requires { ⌜ lentRight (now memory) (now turn) (now output) ≡ true ⌝ }
-    requires { ⌜ dueCore state ≡ true ⌝ }
-    ensures { λ _. ⌜ coreIn (now (core .exit)) ≡ coreOf (askOf (stationIn state (now (listed .entry)) (now (areas .entry)) (now (watch .entry)) (now (misses .entry))) (now (memory .entry)) (now (turn .entry)) (now (output .entry)) .station) ⌝ }
-    ensures { λ _. ⌜ now (core .exit) ≡ kept (now (core .entry)) (coreOf (askOf (stationIn state (now (listed .entry)) (now (areas .entry)) (now (watch .entry)) (now (misses .entry))) (now (memory .entry)) (now (turn .entry)) (now (output .entry)) .station)) ⌝ }
-    ensures { λ r. ⌜ r ≡ askedTold (askOf (stationIn state (now (listed .entry)) (now (areas .entry)) (now (watch .entry)) (now (misses .entry))) (now (memory .entry)) (now (turn .entry)) (now (output .entry)) .output) (askOf (stationIn state (now (listed .entry)) (now (areas .entry)) (now (watch .entry)) (now (misses .entry))) (now (memory .entry)) (now (turn .entry)) (now (output .entry)) .answer) ⌝ }
-    ensures { λ _. ⌜ now (turn .exit) ≡ askOf (stationIn state (now (listed .entry)) (now (areas .entry)) (now (watch .entry)) (now (misses .entry))) (now (memory .entry)) (now (turn .entry)) (now (output .entry)) .turn ⌝ }
-    ensures { λ _. ⌜ now (output .exit) ≡ askOf (stationIn state (now (listed .entry)) (now (areas .entry)) (now (watch .entry)) (now (misses .entry))) (now (memory .entry)) (now (turn .entry)) (now (output .entry)) .output ⌝ }
-    ensures { λ _. ⌜ membersIn (now (listed .exit)) (now (areas .exit)) (now (watch .exit)) (now (misses .exit)) ≡ askOf (stationIn state (now (listed .entry)) (now (areas .entry)) (now (watch .entry)) (now (misses .entry))) (now (memory .entry)) (now (turn .entry)) (now (output .entry)) .station .members ⌝ }
+    requires { ⌜ 1088 ≤ length (now output) ⌝ }
+    ensures { λ _. ⌜ coreIn (now (core .exit)) ≡ coreOf (afterBare state (membersIn (now (listed .entry)) (now (areas .entry)) (now (watch .entry)) (now (misses .entry)))) ⌝ }
+    ensures { λ _. ⌜ now (core .exit) ≡ kept (now (core .entry)) (coreOf (afterBare state (membersIn (now (listed .entry)) (now (areas .entry)) (now (watch .entry)) (now (misses .entry))))) ⌝ }
+    ensures { λ r. ⌜ r ≡ askedTold (outputOf (bareFields state) [] (now (output .entry))) (Octets (wholeLength (bareFields state))) ⌝ }
+    ensures { λ _. ⌜ now (output .exit) ≡ outputOf (bareFields state) [] (now (output .entry)) ⌝ }
+    ensures { λ _. ⌜ membersIn (now (listed .exit)) (now (areas .exit)) (now (watch .exit)) (now (misses .exit)) ≡ afterBare state (membersIn (now (listed .entry)) (now (areas .entry)) (now (watch .entry)) (now (misses .entry))) .members ⌝ }
 {
-    let asked = write_due(state, listed, areas, watch, misses, memory, turn, output);
+    let asked = boundary_bare::send(state, listed, areas, watch, misses, output);
     let answer = asked.answer;
     let after = asked.core;
     keep(core, after);
@@ -130,15 +101,5 @@ pub fn ask(
     if !(lent & boundary_refused::is_due(state)) {
         return boundary_core::refused(boundary_refused::ask_refusal(lent));
     }
-    ask_due(
-        core,
-        state,
-        listed,
-        areas,
-        watch,
-        misses,
-        memory,
-        turn,
-        output,
-    )
+    ask_bare(core, state, listed, areas, watch, misses, output)
 }

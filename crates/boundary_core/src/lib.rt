@@ -1,10 +1,6 @@
 // The state as numbers, for C.
-mod across;
+mod phase;
 
-pub use across::inner;
-pub use across::outer;
-pub use across::phase_number;
-pub use across::phase_of;
 pub use boundary_answers::Answer;
 pub use boundary_answers::Route;
 pub use boundary_answers::done;
@@ -15,6 +11,8 @@ pub use boundary_numbers::heard_answer;
 pub use boundary_numbers::switched_answer;
 pub use boundary_numbers::ticked_answer;
 use panel::Panel;
+pub use phase::phase_number;
+pub use phase::phase_of;
 use station::Gathering;
 use station::Settings;
 use units::Ticks;

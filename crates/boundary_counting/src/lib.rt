@@ -1,4 +1,4 @@
-// A tick: on the core alone where it only counts, with the list in place where it ends a watch, else on the whole station.
+// A tick: on the core alone where it only counts, with the list in place where it ends a watch or a wait.
 use boundary_core::Core;
 use boundary_core::Outcome;
 use station::Ticked;
@@ -7,6 +7,27 @@ ghost use Rattle.boundary_core.specs.Crossing.{coreOf, stationIn};
 ghost use Rattle.boundary_answers.specs.Numbers.{tickedAnswer};
 ghost use Rattle.boundary_lists.specs.Lists.{membersIn};
 ghost use Rattle.station.specs.Rules.Ticking.{tickOf};
+ghost use Rattle.boundary_counting.specs.Counting.{onlyCounts, countedCore};
+
+// Whether the next tick only counts.
+pub fn counts(core: Core) -> bool
+    ensures { λ r. ⌜ r ≡ onlyCounts core ⌝ }
+{
+    if boundary_participant::is_quiet(core) {
+        return true;
+    }
+    boundary_waiting::is_waiting(core)
+}
+
+// The core after a tick that only counts.
+pub fn count(core: Core) -> Core
+    ensures { λ r. ⌜ r ≡ countedCore core ⌝ }
+{
+    if boundary_participant::is_quiet(core) {
+        return boundary_participant::quiet(core);
+    }
+    boundary_waiting::count(core)
+}
 
 pub fn tick(
     core: Core,
@@ -19,26 +40,23 @@ pub fn tick(
     ensures { λ r. ⌜ r .answer ≡ tickedAnswer (tickOf (stationIn core (now (listed .entry)) (now (areas .entry)) (now (watch .entry)) (now (misses .entry))) .answer) ⌝ }
     ensures { λ _. ⌜ membersIn (now (listed .exit)) (now (areas .exit)) (now (watch .exit)) (now (misses .exit)) ≡ tickOf (stationIn core (now (listed .entry)) (now (areas .entry)) (now (watch .entry)) (now (misses .entry))) .station .members ⌝ }
 {
-    if boundary_participant::is_quiet(core) {
+    if counts(core) {
         return Outcome {
-            core: boundary_participant::quiet(core),
+            core: count(core),
             answer: boundary_core::done(),
-        };
-    }
-    if boundary_waiting::is_waiting(core) {
-        return Outcome {
-            core: boundary_waiting::count(core),
-            answer: boundary_core::done(),
-        };
-    }
-    if core.phase == boundary_core::OFF {
-        return Outcome {
-            core,
-            answer: boundary_core::ticked_answer(Ticked::Off),
         };
     }
     if core.phase == boundary_core::PARTICIPATING {
         return boundary_silence::tick(core, listed, areas, watch, misses);
     }
-    boundary_running::tick(core, listed, areas, watch, misses)
+    if core.phase == boundary_core::STARTUP {
+        return boundary_ending::tick_startup(core, listed, areas, watch, misses);
+    }
+    if core.phase == boundary_core::JOINING {
+        return boundary_ending::tick_joining(core, listed, areas, watch, misses);
+    }
+    Outcome {
+        core: boundary_refused::kept(core),
+        answer: boundary_core::ticked_answer(Ticked::Off),
+    }
 }

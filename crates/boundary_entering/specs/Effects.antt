@@ -3,20 +3,21 @@ use Rattle.laws.specs.Usual.{_≡_, refl}
 use Rattle.frame.specs.declared.Code.the-variants.{Token, Cyclic, Request, Trigger}
 use Rattle.station.specs.Rules.Hearing.{requested, enters}
 use Rattle.station.specs.Rules.Starting.{joinedBy}
+use Rattle.station.specs.Rules.State.{fresh}
 use Rattle.station.specs.Types.{Fields, Code}
 use Rattle.station.specs.declared.Phase.{Phase}
 use Rattle.station.specs.declared.Phase.the-variants.{Off, Listening, Startup, Joining, Participating}
 use Rattle.station.specs.declared.Station.{Station}
 use Rattle.boundary_entering.specs.declared.Effect.{Effect}
-use Rattle.boundary_entering.specs.declared.Effect.the-variants.{Nothing, Listed, Learned, Begun}
+use Rattle.boundary_entering.specs.declared.Effect.the-variants.{Nothing, Listed, Learned, Triggered, Joined}
 
 abbrev pub effectOf : Phase → Code → Effect
 effectOf Off code = Nothing
-effectOf Listening Token = Begun
+effectOf Listening Token = Joined
 effectOf Listening Cyclic = Nothing
 effectOf Listening Request = Nothing
-effectOf Listening Trigger = Begun
-effectOf Startup Token = Begun
+effectOf Listening Trigger = Triggered
+effectOf Startup Token = Joined
 effectOf Startup Cyclic = Nothing
 effectOf Startup Request = Listed
 effectOf Startup Trigger = Nothing
@@ -29,16 +30,17 @@ effectOf Participating Cyclic = Nothing
 effectOf Participating Request = Listed
 effectOf Participating Trigger = Nothing
 
--- the station after it, where a phase that begins is given
-abbrev pub afterEffect : Effect → Station → Fields → Station → Station
-afterEffect Nothing station frame begun = station
-afterEffect Listed station frame begun = requested station frame
-afterEffect Learned station frame begun = joinedBy station frame
-afterEffect Begun station frame begun = begun
+-- the station after it
+abbrev pub afterEffect : Effect → Station → Fields → Station
+afterEffect Nothing station frame = station
+afterEffect Listed station frame = requested station frame
+afterEffect Learned station frame = joinedBy station frame
+afterEffect Triggered station frame = fresh Startup (station .own)
+afterEffect Joined station frame = joinedBy (fresh Joining (station .own)) frame
 
 -- these are the rules
 pub enters-by : (phase : Phase) (code : Code) (station : Station) (frame : Fields)
-    → enters phase code station frame ≡ afterEffect (effectOf phase code) station frame (enters phase code station frame)
+    → enters phase code station frame ≡ afterEffect (effectOf phase code) station frame
 enters-by Off code station frame = refl
 enters-by Listening Token station frame = refl
 enters-by Listening Cyclic station frame = refl

@@ -1,6 +1,8 @@
 -- Such a frame, heard: the core after it by the core before, and the list. Assumes nothing.
 use Rattle.laws.specs.Usual.{_≡_, refl, sym, ap, _∙_, Bool, true, false, cond, not, _&&_, _||_, false≢true, List, ℕ, arith, length, eqb}
 use borrow.Author.Tests.{eqb-true}
+use Rattle.boundary_answers.specs.Numbers.{heardAnswer}
+use Rattle.boundary_answers.specs.declared.Answer.{Answer}
 use Rattle.boundary_core.specs.Crossing.{phaseOf, stationOf, coreOf, isIn}
 use Rattle.boundary_core.specs.declared.Core.{Core}
 use Rattle.boundary_participant.specs.Quick.{isAccepted}
@@ -15,6 +17,7 @@ use Rattle.station.specs.Rules.Hearing.{Hearing, lentRight, requested, enters, 
 use Rattle.station.specs.Rules.Starting.{joinedBy, requestFallen, oursDue}
 use Rattle.station.specs.Rules.State.{isParticipating}
 use Rattle.station.specs.Types.{Areas, Fields, Read, Frame, Refused, Members}
+use Rattle.station.specs.declared.Heard.{Heard}
 use Rattle.station.specs.declared.Phase.{Phase}
 use Rattle.station.specs.declared.Phase.the-variants.{Off, Listening, Startup, Joining, Participating}
 use Rattle.station.specs.declared.Station.{Station}
@@ -95,8 +98,21 @@ module _
     unfolding readOf
     heard-entered lent read = rw lent (header-entered (readHeaderOf octets) read)
 
--- and does what its effect is
-pub entered : (phase : Phase) (station : Station) (frame : Fields) (effect : Effect) → effectOf phase (frame .code) ≡ effect
-    → enters phase (frame .code) station frame ≡ afterEffect effect station frame (enters phase (frame .code) station frame)
-entered phase station frame effect e =
-    enters-by phase (frame .code) station frame ∙ ap (λ (t : Effect). afterEffect t station frame (enters phase (frame .code) station frame)) e
+-- and does what its effect is: the core, the answer and the list after it
+module _ (core : Core) (members : Members) (frame : Fields) where
+  abbrev entering : Station
+  entering = stationOf core members
+
+  pub entered : {phase : Phase} {told effect : Effect} {heard : Heard} {answer : Answer} {after : Core} {list : Members}
+      → phase ≡ phaseOf (core .phase) → told ≡ effectOf phase (frame .code) → told ≡ effect
+      → answer ≡ heardAnswer heard → heard ≡ entersAnswer phase (frame .code)
+      → after ≡ coreOf (afterEffect effect entering frame) → list ≡ afterEffect effect entering frame .members
+      → (after ≡ coreOf (enters (phaseOf (core .phase)) (frame .code) entering frame))
+      × ((answer ≡ heardAnswer (entersAnswer (phaseOf (core .phase)) (frame .code)))
+      × (list ≡ enters (phaseOf (core .phase)) (frame .code) entering frame .members))
+  entered {phase} {told} {effect} e t u a h c l =
+      let known : effectOf (phaseOf (core .phase)) (frame .code) ≡ effect = ap (λ (p : Phase). effectOf p (frame .code)) (sym e) ∙ sym t ∙ u in
+      let law = enters-by (phaseOf (core .phase)) (frame .code) entering frame ∙ ap (λ (t : Effect). afterEffect t entering frame) known in (
+        c ∙ sym (ap coreOf law),
+        (a ∙ ap heardAnswer (h ∙ ap (λ (p : Phase). entersAnswer p (frame .code)) e), l ∙ sym (ap (λ (s : Station). s .members) law)),
+      )

@@ -1,11 +1,13 @@
 // A frame that is not refused, and that no participant takes as a cyclic one: most leave the list alone, and some list one station in place.
 use area::Areas;
+use boundary_beginning::begin;
 use boundary_core::Core;
 use boundary_core::Outcome;
 use boundary_core::phase_of;
 use frame::Code;
 use frame::Fields;
 use station::Phase;
+use station::Settings;
 ghost use Rattle.laws.specs.Usual.{_≡_, cond, ltb};
 ghost use Rattle.boundary_answers.specs.Numbers.{heardAnswer};
 ghost use Rattle.boundary_core.specs.Crossing.{phaseOf, coreOf, stationIn};
@@ -15,24 +17,28 @@ ghost use Rattle.boundary_lists.specs.Lists.{membersIn};
 ghost use Rattle.frame_writing.specs.Writing.{noAreas};
 ghost use Rattle.members.specs.Listing.{listing};
 ghost use Rattle.station.specs.Rules.Hearing.{enters, entersAnswer};
+ghost use Rattle.station.specs.Rules.Starting.{joinedBy};
+ghost use Rattle.station.specs.Rules.State.{fresh};
 ghost use Rattle.station.specs.declared.Phase.the-variants as phases;
 
-// What becomes of the list: nothing, its station is listed by its request, joining learns its station, or a phase begins with an empty list.
+// What becomes of the list: nothing, its station is listed by its request, joining learns its station, or a phase begins with an empty list:
+// ring startup, or joining, which learns from this frame.
 pub enum Effect {
     Nothing,
     Listed,
     Learned,
-    Begun,
+    Triggered,
+    Joined,
 }
 
 fn listening_effect(code: Code) -> Effect
     ensures { λ r. ⌜ r ≡ effectOf phases.Listening code ⌝ }
 {
     match code {
-        Code::Token => Effect::Begun,
+        Code::Token => Effect::Joined,
         Code::Cyclic => Effect::Nothing,
         Code::Request => Effect::Nothing,
-        Code::Trigger => Effect::Begun,
+        Code::Trigger => Effect::Triggered,
     }
 }
 
@@ -40,7 +46,7 @@ fn startup_effect(code: Code) -> Effect
     ensures { λ r. ⌜ r ≡ effectOf phases.Startup code ⌝ }
 {
     match code {
-        Code::Token => Effect::Begun,
+        Code::Token => Effect::Joined,
         Code::Cyclic => Effect::Nothing,
         Code::Request => Effect::Listed,
         Code::Trigger => Effect::Nothing,
@@ -188,6 +194,23 @@ fn join(core: Core, frame: Fields) -> Core
     }
 }
 
+// "A token frame heard in listening .. or in ring startup goes to joining with an empty list, and is the first frame read there."
+fn begin_joining(
+    own: Settings,
+    listed: &mut [bool; 256],
+    areas: &mut [u16; boundary_lists::AREA_NUMBERS],
+    watch: &mut [u8; 256],
+    misses: &mut [u8; 256],
+    frame: Fields,
+) -> Core
+    ensures { λ r. ⌜ r ≡ coreOf (joinedBy (fresh phases.Joining own) frame) ⌝ }
+    ensures { λ _. ⌜ membersIn (now (listed .exit)) (now (areas .exit)) (now (watch .exit)) (now (misses .exit)) ≡ joinedBy (fresh phases.Joining own) frame .members ⌝ }
+{
+    let core = begin(Phase::Joining, own, listed, areas, watch, misses);
+    learn(core.rounds, listed, areas, watch, misses, frame);
+    join(core, frame)
+}
+
 pub fn hear(
     core: Core,
     listed: &mut [bool; 256],
@@ -217,8 +240,15 @@ pub fn hear(
             let core = join(core, frame);
             Outcome { core, answer }
         }
-        Effect::Begun => {
-            boundary_whole::enter(core, listed, areas, watch, misses, frame, answer)
+        Effect::Triggered => {
+            let own = core.own;
+            let core = begin(Phase::Startup, own, listed, areas, watch, misses);
+            Outcome { core, answer }
+        }
+        Effect::Joined => {
+            let own = core.own;
+            let core = begin_joining(own, listed, areas, watch, misses, frame);
+            Outcome { core, answer }
         }
     }
 }

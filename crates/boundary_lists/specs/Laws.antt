@@ -1,17 +1,16 @@
 -- The list that the arrays hold: its entries, its changes, next, and that it says all of the arrays. Assumes nothing.
-use Rattle.laws.specs.Usual.{_≡_, refl, sym, ap, ap₂, _∙_, Bool, false, cond, List, [], _∷_, ℕ, suc, _+_, _*_, _/_, _%_, _<_, _≤_, arith, length, getD, take, set}
+use Rattle.laws.specs.Usual.{_≡_, refl, sym, ap, ap₂, _∙_, Bool, false, cond, List, [], _∷_, ℕ, suc, _+_, _*_, _/_, _%_, _<_, arith, length, getD, set}
 use mathlib.Core.Logic.{_≢_}
 use Prim.Native.Nat.{zero}
 use native.Mathlib.Decide.{ℕ-discrete}
 use native.Mathlib.Nat.{zero-add}
-use native.Mathlib.Numerals.{add-one}
 use lib.ListN.{length-set}
-use lib.Seq.{take-all, take-suc, take-suc-set, ext-getD, getD-set-same, getD-set-other}
-use Rattle.members.specs.Members.{nobody, entryOf, isListed, withEntry, cleared, numbersFrom, withOurs, nextAfter}
+use lib.Seq.{ext-getD, getD-set-same, getD-set-other}
+use Rattle.members.specs.Members.{nobody, entryOf, isListed, withEntry, cleared, numbersFrom, numbersOf, withOurs, nextAfter}
 use Rattle.settling.specs.Ring.{next}
 use Rattle.members.specs.declared.Entry.{Entry}
 use Rattle.members.specs.declared.Members.{Members}
-use Rattle.boundary_lists.specs.Lists.{entryIn, entriesFrom, membersIn, Whole, nextIn}
+use Rattle.boundary_lists.specs.Lists.{entryIn, entriesFrom, membersIn, flagged, Whole, nextIn}
 
 -- so many entries are made
 entries-length : (entry : ℕ → Entry) (number count : ℕ) → length (entriesFrom entry number count) ≡ count
@@ -50,16 +49,6 @@ same-entries : (a b : Members) → length (a .entries) ≡ 256 → length (b .en
 unfolding made
 same-entries a b all-a all-b same =
     ap made (ext-getD nobody (a .entries) (b .entries) (all-a ∙ sym all-b) (λ i h. same i (omega arith)))
-
--- a loop that copies a list's entries in their order: one more, and all
-pub one-more : (copied entries : List Entry) (number : ℕ) (entry : Entry) → entry ≡ getD entries number nobody → number < length copied
-    → number < length entries → take number copied ≡ take number entries → take (number + 1) (set copied number entry) ≡ take (number + 1) entries
-one-more copied entries number entry e h h′ same = rw (add-one, take-suc-set copied number entry, take-suc entries number nobody, same, e)
-
-pub all-copied : (a b : Members) (number : ℕ) → length (a .entries) ≤ number → length (b .entries) ≤ number
-    → take number (a .entries) ≡ take number (b .entries) → a ≡ b
-unfolding made
-all-copied a b number h h′ same = ap made (sym (take-all number (a .entries) h) ∙ same ∙ take-all number (b .entries) h′)
 
 -- a change of one entry in the arrays is that change in the list
 module _ (l₀ : List Bool) (a₀ w₀ m₀ : List ℕ) (l : List Bool) (a w m : List ℕ) (number : ℕ) (entry : Entry) (h : number < 256) where
@@ -102,13 +91,14 @@ same-numbers f g same number zero = refl
 same-numbers f g same number (suc count) =
     ap₂ (λ (flag : Bool) (numbers : List ℕ). cond flag (number ∷ numbers) numbers) (same number) (same-numbers f g same (suc number) count)
 
--- next is the list's
-pub next-in : (listed : List Bool) (areas watch misses : List ℕ) (ours number : ℕ)
-    → nextIn ours listed number ≡ nextAfter ours (membersIn listed areas watch misses) number
-unfolding membersIn
-next-in listed areas watch misses ours number =
-    ap (λ (numbers : List ℕ). next (withOurs ours numbers) number)
-    (same-numbers (entryIn listed [] [] []) (entryIn listed areas watch misses) (λ i. refl) 0 256)
+-- who is listed and next are the list's
+module _ (listed : List Bool) (areas watch misses : List ℕ) where
+  pub numbers-in : numbersOf (flagged listed) ≡ numbersOf (membersIn listed areas watch misses)
+  unfolding membersIn
+  numbers-in = same-numbers (entryIn listed [] [] []) (entryIn listed areas watch misses) (λ i. refl) 0 256
+
+  pub next-in : (ours number : ℕ) → nextIn ours listed number ≡ nextAfter ours (membersIn listed areas watch misses) number
+  next-in ours number = ap (λ (numbers : List ℕ). next (withOurs ours numbers) number) numbers-in
 
 -- what the list is says every number of the arrays
 module _ (l : List Bool) (a w m : List ℕ) (l′ : List Bool) (a′ w′ m′ : List ℕ) (whole : Whole l a w m) (whole′ : Whole l′ a′ w′ m′)

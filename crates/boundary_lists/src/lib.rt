@@ -3,7 +3,6 @@
 use area::Areas;
 use area::Part;
 use members::Entry;
-use members::Members;
 use units::Milliseconds;
 ghost use Rattle.laws.specs.Usual.{_≡_, false, getD, set};
 ghost use Rattle.members.specs.Members.{entryOf};
@@ -50,23 +49,4 @@ pub fn clear(misses: &mut [u8; 256], number: u8)
     ensures { λ _. ⌜ now (misses .exit) ≡ set (now (misses .entry)) number 0 ⌝ }
 {
     misses[number as usize] = 0;
-}
-
-// The list as one value.
-pub fn members_of(
-    listed: &[bool; 256],
-    areas: &[u16; AREA_NUMBERS],
-    watch: &[u8; 256],
-    misses: &[u8; 256],
-) -> Members
-    ensures { λ r. ⌜ r ≡ membersIn (now (listed .entry)) (now (areas .entry)) (now (watch .entry)) (now (misses .entry)) ⌝ }
-{
-    let none = members::no_members();
-    let mut entries = none.entries;
-    let mut number: usize = 0;
-    while number < 256 {
-        entries[number] = entry_at(listed, areas, watch, misses, number as u8);
-        number += 1;
-    }
-    Members { entries }
 }

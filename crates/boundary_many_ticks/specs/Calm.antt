@@ -1,16 +1,34 @@
 -- Ticks that only count, on a core: they do not touch the list. Assumes nothing.
-use Rattle.laws.specs.Usual.{_≡_, sym, _∙_, Bool, true, ℕ, eqb}
+use Rattle.laws.specs.Usual.{_≡_, sym, _∙_, Bool, true, not, false≢true, ℕ, suc, _<_, arith, eqb}
+use Prim.Native.Nat.{zero}
 use native.Mathlib.Nat.{le-of-eq}
-use borrow.Author.Tests.{eqb-true}
+use borrow.Author.Tests.{eqb-true, eq-eqb, not-true}
 use Rattle.members.specs.Members.{noMembers}
 use Rattle.members.specs.declared.Members.{Members}
-use Rattle.station.specs.Rules.Ticking.{tickAnswer}
-use Rattle.ticking_quiet.specs.Many.{ticksOf}
-use Rattle.ticking_quiet.specs.ManyLaws.{ticks-station, ticks-answer}
+use Rattle.ticking_quiet.specs.Many.{afterTicks}
 use Rattle.ticking_calm.specs.Calm.{calmOf, calmAfter}
-use Rattle.ticking_calm.specs.CalmTicks.{calm-ticks}
+use Rattle.ticking_calm.specs.CalmTicks.{calm-ticks, calm-few}
+use Rattle.ticking_calm.specs.declared.Counts.{Counts}
 use Rattle.boundary_core.specs.Crossing.{phaseOf, stationOf, coreOf}
 use Rattle.boundary_core.specs.declared.Core.{Core}
+
+-- the counts of a core, and the core with others
+abbrev pub countsIn : Core → Counts
+countsIn core = record { elapsed = core .elapsed; waited = core .waited; panel = core .panel }
+
+abbrev pub countedCore : Core → Counts → Core
+countedCore core counts = record {
+  phase = core .phase;
+  own = core .own;
+  elapsed = counts .elapsed;
+  waited = counts .waited;
+  rounds = core .rounds;
+  sent = core .sent;
+  view = core .view;
+  block = core .block;
+  gathering = core .gathering;
+  panel = counts .panel;
+}
 
 -- all of the next ticks only count, whatever the list is
 abbrev pub isCalm : Core → ℕ → Bool
@@ -20,11 +38,14 @@ isCalm core count = eqb (calmOf (stationOf core noMembers) count) count
 abbrev pub calmCore : ℕ → Core → Core
 calmCore count core = coreOf (calmAfter count (stationOf core noMembers))
 
-module _ (core : Core) (members : Members) (count : ℕ) (calm : isCalm core count ≡ true) where
-  pub calm-station : ticksOf count (stationOf core members) .station ≡ calmAfter count (stationOf core members)
-  calm-station =
-      ticks-station count (stationOf core members)
-      ∙ calm-ticks (stationOf core members) count count (le-of-eq (sym (eqb-true (calmOf (stationOf core noMembers) count) count calm)))
+pub calm-station : (core : Core) (members : Members) (count : ℕ) → isCalm core count ≡ true
+    → afterTicks count (stationOf core members) ≡ calmAfter count (stationOf core members)
+calm-station core members count calm =
+    calm-ticks (stationOf core members) count count (le-of-eq (sym (eqb-true (calmOf (stationOf core noMembers) count) count calm)))
 
-  pub calm-answer : ticksOf count (stationOf core members) .answer ≡ tickAnswer (phaseOf (core .phase))
-  calm-answer = ticks-answer count (stationOf core members)
+-- a tick that does more is a tick
+pub some-left : (core : Core) (count : ℕ) {calm : Bool} → calm ≡ isCalm core count → not calm ≡ true → 0 < count
+some-left core zero {calm} known loud =
+    let few = calm-few (phaseOf (core .phase)) (core .own) (core .rounds) (core .elapsed) (core .waited) 0 in
+    absurd (false≢true (sym (not-true calm loud) ∙ known ∙ eq-eqb (calmOf (stationOf core noMembers) 0) 0 (omega arith)))
+some-left core (suc count) known loud = omega arith

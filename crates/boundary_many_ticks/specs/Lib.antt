@@ -1,2 +1,3 @@
--- Ticks that only count, on a core.
+-- Ticks that only count, and ticks jumped over, on a core.
 pub mod Calm
+pub mod Jump

@@ -1,17 +1,52 @@
-// Many ticks in one call: on the core alone where they only count, else on the whole station.
+// Many ticks in one call: on the core alone where they only count, else jumped over or made with the list in place.
 use boundary_core::Core;
 use boundary_core::Outcome;
 use boundary_core::phase_number;
 use boundary_core::phase_of;
 use boundary_core::ticked_answer;
 use ticking_calm::Counts;
-ghost use Rattle.laws.specs.Usual.{_≡_};
+ghost use Rattle.laws.specs.Usual.{_≡_, List, ℕ, _-_, _≤_};
 ghost use Rattle.boundary_answers.specs.Numbers.{tickedAnswer};
 ghost use Rattle.boundary_core.specs.Crossing.{coreOf, stationIn};
 ghost use Rattle.boundary_lists.specs.Lists.{membersIn};
-ghost use Rattle.ticking_quiet.specs.Many.{ticksOf};
-ghost use Rattle.boundary_many_ticks.specs.Calm.{isCalm, calmCore};
+ghost use Rattle.ticking_quiet.specs.Many.{afterTicks, ticksOf};
+ghost use Rattle.boundary_many_ticks.specs.Calm.{countsIn, countedCore, isCalm, calmCore};
+ghost use Rattle.boundary_many_ticks.specs.Jump.{aloneIn};
 
+// A core, and the ticks that are still to come.
+struct Left {
+    core: Core,
+    ticks: u32,
+}
+
+fn counts_in(core: Core) -> Counts
+    ensures { λ r. ⌜ r ≡ countsIn core ⌝ }
+{
+    let elapsed = core.elapsed;
+    let waited = core.waited;
+    let panel = core.panel;
+    Counts {
+        elapsed,
+        waited,
+        panel,
+    }
+}
+
+fn with_counts(core: Core, counts: Counts) -> Core
+    ensures { λ r. ⌜ r ≡ countedCore core counts ⌝ }
+{
+    let elapsed = counts.elapsed;
+    let waited = counts.waited;
+    let panel = counts.panel;
+    Core {
+        elapsed,
+        waited,
+        panel,
+        ..core
+    }
+}
+
+// All of the next `count` ticks only count.
 fn is_calm(core: Core, count: u32) -> bool
     ensures { λ r. ⌜ r ≡ isCalm core count ⌝ }
 {
@@ -35,51 +70,43 @@ fn count_on(core: Core, count: u32) -> Core
 {
     let phase = phase_of(core.phase);
     let own = core.own;
-    let before = core.elapsed;
-    let since = core.waited;
-    let counter = core.panel;
-    let counts = ticking_calm::counts_after(
-        phase,
-        own,
-        core.rounds,
-        count,
-        Counts {
-            elapsed: before,
-            waited: since,
-            panel: counter,
-        },
-    );
-    let elapsed = counts.elapsed;
-    let waited = counts.waited;
-    let panel = counts.panel;
+    let counts = ticking_calm::counts_after(phase, own, core.rounds, count, counts_in(core));
+    let after = with_counts(core, counts);
     Core {
         phase: phase_number(phase),
-        elapsed,
-        waited,
-        panel,
-        ..core
+        ..after
     }
 }
 
-fn tick_whole(
-    core: Core,
-    listed: &mut [bool; 256],
-    areas: &mut [u16; boundary_lists::AREA_NUMBERS],
-    watch: &mut [u8; 256],
-    misses: &mut [u8; 256],
-    count: u32,
-) -> Outcome
-    ensures { λ r. ⌜ r .core ≡ coreOf (ticksOf count (stationIn core (now (listed .entry)) (now (areas .entry)) (now (watch .entry)) (now (misses .entry))) .station) ⌝ }
-    ensures { λ r. ⌜ r .answer ≡ tickedAnswer (ticksOf count (stationIn core (now (listed .entry)) (now (areas .entry)) (now (watch .entry)) (now (misses .entry))) .answer) ⌝ }
-    ensures { λ _. ⌜ membersIn (now (listed .exit)) (now (areas .exit)) (now (watch .exit)) (now (misses .exit)) ≡ ticksOf count (stationIn core (now (listed .entry)) (now (areas .entry)) (now (watch .entry)) (now (misses .entry))) .station .members ⌝ }
+// A participant that holds and is alone: of the list only the flags matter.
+fn is_alone(core: Core, listed: &[bool; 256]) -> bool
+    ensures { λ r. ⌜ r ≡ aloneIn core (now (listed .entry)) ⌝ }
 {
-    let station = boundary_crossing::station_of(core, listed, areas, watch, misses);
-    let after = ticking_many::ticks(station, count);
-    let answer = after.answer;
-    let station = after.station;
-    boundary_crossing::keep(station, ticked_answer(answer), listed, areas, watch, misses)
+    let number = core.own.number;
+    if !(state_tests::is_participating(phase_of(core.phase)) & (core.view == number)) {
+        return false;
+    }
+    let next = boundary_flags::next_after(number, listed, number);
+    (next == number) & !boundary_lists::is_listed(listed, number)
 }
 
+// Some of the next `count` ticks jumped over, which leaves the list as it is.
+fn jump(core: Core, listed: &[bool; 256], count: u32) -> Left
+    ensures { λ r. ⌜ r .ticks ≤ count ⌝ }
+    ensures { λ r. ⌜ ((areas watch misses : List ℕ) → stationIn (r .core) (now (listed .entry)) areas watch misses ≡ afterTicks (count - r .ticks) (stationIn core (now (listed .entry)) areas watch misses)) ⌝ }
+{
+    let own = core.own;
+    let alone = is_alone(core, listed);
+    let counts = counts_in(core);
+    let jumped = ticking_jump::jump(alone, phase_of(core.phase), own, core.rounds, counts, count);
+    let after = jumped.counts;
+    Left {
+        core: with_counts(core, after),
+        ticks: jumped.ticks,
+    }
+}
+
+// Jumps over some ticks and makes the next, until those that are left only count.
 pub fn ticks(
     core: Core,
     listed: &mut [bool; 256],
@@ -92,11 +119,17 @@ pub fn ticks(
     ensures { λ r. ⌜ r .answer ≡ tickedAnswer (ticksOf count (stationIn core (now (listed .entry)) (now (areas .entry)) (now (watch .entry)) (now (misses .entry))) .answer) ⌝ }
     ensures { λ _. ⌜ membersIn (now (listed .exit)) (now (areas .exit)) (now (watch .exit)) (now (misses .exit)) ≡ ticksOf count (stationIn core (now (listed .entry)) (now (areas .entry)) (now (watch .entry)) (now (misses .entry))) .station .members ⌝ }
 {
-    if is_calm(core, count) {
-        return Outcome {
-            core: count_on(core, count),
-            answer: ticked_answer(ticking::answer_in(phase_of(core.phase))),
-        };
+    let mut after = core;
+    let mut left = count;
+    while !is_calm(after, left) {
+        let jumped = jump(after, listed, left - 1);
+        let before = jumped.core;
+        let outcome = boundary_counting::tick(before, listed, areas, watch, misses);
+        after = outcome.core;
+        left = jumped.ticks;
     }
-    tick_whole(core, listed, areas, watch, misses, count)
+    Outcome {
+        core: count_on(after, left),
+        answer: ticked_answer(ticking::answer_in(phase_of(core.phase))),
+    }
 }

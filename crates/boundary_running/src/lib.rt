@@ -1,25 +1,23 @@
-// Start, stop and tick on a whole station; tick is handed on from its own crate.
+// Start and stop. A refused one leaves the list alone, any other empties it; what stood there is not looked at.
 use boundary_core::Core;
 use boundary_core::Outcome;
 use boundary_core::phase_of;
-use boundary_core::switched_answer;
-pub use boundary_ticking::tick;
 use frame::Refusal;
+use station::Phase;
 use station::Settings;
+use station::Switched;
 ghost use mathlib.Core.Path.{_≡_};
 ghost use Rattle.boundary_core.specs.Crossing.{coreOf, stationIn};
 ghost use Rattle.boundary_answers.specs.Numbers.{switchedAnswer, refusedAnswer};
 ghost use Rattle.boundary_lists.specs.Lists.{membersIn};
 ghost use Rattle.boundary_refused.specs.Due.{keptCore};
-ghost use Rattle.frame.specs.declared.Refusal.the-variants.{NotDue};
 ghost use Rattle.station.specs.Rules.Starting.{startOf, stopOf};
 
-// 10: a start when not off, a stop when off. The list is not looked at.
-fn not_due(core: Core) -> Outcome
+fn refuse(core: Core, refusal: Refusal) -> Outcome
     ensures { λ r. ⌜ r .core ≡ keptCore core ⌝ }
-    ensures { λ r. ⌜ r .answer ≡ refusedAnswer NotDue ⌝ }
+    ensures { λ r. ⌜ r .answer ≡ refusedAnswer refusal ⌝ }
 {
-    let answer = boundary_core::refused(Refusal::NotDue);
+    let answer = boundary_core::refused(refusal);
     Outcome {
         core: boundary_refused::kept(core),
         answer,
@@ -38,21 +36,13 @@ pub fn start(
     ensures { λ r. ⌜ r .answer ≡ switchedAnswer (startOf (stationIn core (now (listed .entry)) (now (areas .entry)) (now (watch .entry)) (now (misses .entry))) own .answer) ⌝ }
     ensures { λ _. ⌜ membersIn (now (listed .exit)) (now (areas .exit)) (now (watch .exit)) (now (misses .exit)) ≡ startOf (stationIn core (now (listed .entry)) (now (areas .entry)) (now (watch .entry)) (now (misses .entry))) own .station .members ⌝ }
 {
-    if !state_tests::is_off(phase_of(core.phase)) {
-        return not_due(core);
+    match starting::start_answer(phase_of(core.phase), own) {
+        Switched::Done => Outcome {
+            core: boundary_beginning::begin(Phase::Listening, own, listed, areas, watch, misses),
+            answer: boundary_core::done(),
+        },
+        Switched::Refused(refusal) => refuse(core, refusal),
     }
-    let station = boundary_crossing::station_of(core, listed, areas, watch, misses);
-    let after = starting::start(station, own);
-    let answer = after.answer;
-    let station = after.station;
-    boundary_crossing::keep(
-        station,
-        switched_answer(answer),
-        listed,
-        areas,
-        watch,
-        misses,
-    )
 }
 
 pub fn stop(
@@ -67,18 +57,11 @@ pub fn stop(
     ensures { λ _. ⌜ membersIn (now (listed .exit)) (now (areas .exit)) (now (watch .exit)) (now (misses .exit)) ≡ stopOf (stationIn core (now (listed .entry)) (now (areas .entry)) (now (watch .entry)) (now (misses .entry))) .station .members ⌝ }
 {
     if state_tests::is_off(phase_of(core.phase)) {
-        return not_due(core);
+        return refuse(core, Refusal::NotDue);
     }
-    let station = boundary_crossing::station_of(core, listed, areas, watch, misses);
-    let after = starting::stop(station);
-    let answer = after.answer;
-    let station = after.station;
-    boundary_crossing::keep(
-        station,
-        switched_answer(answer),
-        listed,
-        areas,
-        watch,
-        misses,
-    )
+    let number = core.own.number;
+    Outcome {
+        core: boundary_beginning::turn_off(number, listed, areas, watch, misses),
+        answer: boundary_core::done(),
+    }
 }

@@ -18,8 +18,7 @@ pub fn new(
     ensures { λ r. ⌜ r ≡ coreOf never ⌝ }
     ensures { λ _. ⌜ membersIn (now (listed .exit)) (now (areas .exit)) (now (watch .exit)) (now (misses .exit)) ≡ noMembers ⌝ }
 {
-    boundary_storing::write(members::no_members(), listed, areas, watch, misses);
-    boundary_core::outer(phases::never())
+    boundary_beginning::turn_off(0, listed, areas, watch, misses)
 }
 
 // What the front panel shows. The list does not matter to it.

@@ -1,10 +1,10 @@
--- An entry stored in the arrays is stored in the list that they hold. Assumes nothing.
-use Rattle.laws.specs.Usual.{_≡_, Bool, false, List, ℕ, _+_, _*_, _<_, _≤_, arith, length, getD, set}
+-- An entry stored in the arrays is stored in the list that they hold, and arrays of nothing hold none. Assumes nothing.
+use Rattle.laws.specs.Usual.{_≡_, refl, Bool, false, List, ℕ, _+_, _*_, _<_, _≤_, arith, length, getD, set, replicate}
 use mathlib.Core.Logic.{_≢_}
 use lib.ListN.{length-set}
 use lib.Seq.{getD-set-same, getD-set-other}
 use Rattle.area.specs.declared.Areas.{Areas}
-use Rattle.members.specs.Members.{withEntry}
+use Rattle.members.specs.Members.{noMembers, withEntry}
 use Rattle.members.specs.declared.Entry.{Entry}
 use Rattle.boundary_lists.specs.Lists.{areasFrom, membersIn, Whole}
 use Rattle.boundary_lists.specs.Laws.{changed-in}
@@ -70,3 +70,8 @@ put-in listed areas watch misses number entry h whole =
       getD-set-other watch number i (entry .watch .0) 0 other,
       getD-set-other misses number i (entry .misses) 0 other,
     ))
+
+-- arrays of nothing hold an empty list
+pub none-in : membersIn (replicate 256 false) (replicate 1024 0) (replicate 256 0) (replicate 256 0) ≡ noMembers
+unfolding membersIn
+none-in = refl

@@ -1,9 +1,8 @@
-// An entry, and a whole list, stored in the arrays of numbers that hold a station list.
+// An entry, and an empty list, stored in the arrays of numbers that hold a station list.
 use members::Entry;
-use members::Members;
 ghost use mathlib.Core.Path.{_≡_};
 ghost use Rattle.boundary_lists.specs.Lists.{membersIn, Whole};
-ghost use Rattle.members.specs.Members.{withEntry};
+ghost use Rattle.members.specs.Members.{noMembers, withEntry};
 
 // Stores an entry. Slices, since a proof is told the length of a slice, and not of an array behind a reference.
 fn store(
@@ -41,21 +40,17 @@ pub fn put(
     store(entry, number, listed, areas, watch, misses);
 }
 
-// Writes a list over what the arrays held.
-pub fn write(
-    members: Members,
+// Writes an empty list over what the arrays held, without looking at it.
+pub fn empty(
     listed: &mut [bool; 256],
     areas: &mut [u16; boundary_lists::AREA_NUMBERS],
     watch: &mut [u8; 256],
     misses: &mut [u8; 256],
 )
-    ensures { λ _. ⌜ membersIn (now (listed .exit)) (now (areas .exit)) (now (watch .exit)) (now (misses .exit)) ≡ members ⌝ }
+    ensures { λ _. ⌜ membersIn (now (listed .exit)) (now (areas .exit)) (now (watch .exit)) (now (misses .exit)) ≡ noMembers ⌝ }
 {
-    let entries = members.entries;
-    let mut number: usize = 0;
-    while number < 256 {
-        let entry = entries[number];
-        put(entry, number as u8, listed, areas, watch, misses);
-        number += 1;
-    }
+    *listed = [false; 256];
+    *areas = [0; boundary_lists::AREA_NUMBERS];
+    *watch = [0; 256];
+    *misses = [0; 256];
 }

@@ -5,8 +5,9 @@ use Rattle.laws.specs.Tests.{first, second, neither-first, neither-second}
 use Rattle.members.specs.declared.Members.{Members}
 use Rattle.station.specs.Rules.Ticking.{tickOf, later, waitEnds}
 use Rattle.station.specs.Rules.Waits.{detectionWait, acceptanceTime}
+use Rattle.station.specs.declared.Phase.the-variants.{Startup, Joining, Participating}
 use Rattle.station.specs.declared.Ticked.the-variants.{Done, Off}
-use Rattle.boundary_core.specs.Crossing.{stationOf, coreOf}
+use Rattle.boundary_core.specs.Crossing.{stationOf, coreOf, isIn}
 use Rattle.boundary_core.specs.declared.Core.{Core}
 use Rattle.boundary_waiting.specs.Waiting.{waitedJoining, startupEnds, joiningEnds, isWaiting, waitedCore}
 
@@ -47,7 +48,10 @@ module _ (core : Core) (members : Members) where
       by false true l s e = in-startup s
       by false false l s e = in-joining e
 
-  -- an off station's tick changes nothing
-  pub stays-off : core .phase ≡ 0
-      → (tickOf (stationOf core members) ≡ record { station = stationOf core members; answer = Off }) × (coreOf (tickOf (stationOf core members) .station) ≡ core)
-  stays-off none = (rw none, rw none)
+  -- a number that is no phase's counts as off: the tick changes nothing else
+  pub stays-off : isWaiting core ≡ false → isIn Startup core ≡ false → isIn Joining core ≡ false → isIn Participating core ≡ false
+      → tickOf (stationOf core members) ≡ record { station = stationOf core members; answer = Off }
+  stays-off ends starts joins participates =
+      let listens : eqb (core .phase) 1 ≡ false =
+      neither-first (eqb (core .phase) 1) ((eqb (core .phase) 2 && not (startupEnds core)) || (eqb (core .phase) 3 && not (joiningEnds core))) ends in
+      rw (listens, starts, joins, participates)

@@ -7,6 +7,7 @@ use station::Switched;
 ghost use Rattle.laws.specs.Usual.{_≡_, _&&_, ltb};
 ghost use Rattle.frame_reading.specs.Reading.{isStation};
 ghost use Rattle.station.specs.Rules.Starting.{startOf, stopOf};
+ghost use Rattle.starting.specs.Answers.{startAnswer};
 
 // A call of start or stop: the state after it, and the answer.
 pub struct Switching {
@@ -38,22 +39,32 @@ fn is_numbered(own: Settings) -> bool
     frame_reading::is_station(own.number) & (0 < watch.0)
 }
 
+// What a start is answered. The list does not matter to it.
+pub fn start_answer(phase: Phase, own: Settings) -> Switched
+    ensures { λ r. ⌜ r ≡ startAnswer phase own ⌝ }
+{
+    let areas = own.areas;
+    if !phases::is_off(phase) {
+        return Switched::Refused(Refusal::NotDue);
+    }
+    if !is_numbered(own) {
+        return Switched::Refused(Refusal::Address);
+    }
+    if !area::in_range(areas) {
+        return Switched::Refused(Refusal::Area);
+    }
+    Switched::Done
+}
+
 pub fn start(station: Station, own: Settings) -> Switching
     ensures { λ r. ⌜ r .station ≡ startOf station own .station ⌝ }
     ensures { λ r. ⌜ r .answer ≡ startOf station own .answer ⌝ }
 {
     let phase = station.phase;
-    let areas = own.areas;
-    if !phases::is_off(phase) {
-        return refused(station, Refusal::NotDue);
+    match start_answer(phase, own) {
+        Switched::Done => done(phases::fresh(Phase::Listening, own)),
+        Switched::Refused(refusal) => refused(station, refusal),
     }
-    if !is_numbered(own) {
-        return refused(station, Refusal::Address);
-    }
-    if !area::in_range(areas) {
-        return refused(station, Refusal::Area);
-    }
-    done(phases::fresh(Phase::Listening, own))
 }
 
 pub fn stop(station: Station) -> Switching

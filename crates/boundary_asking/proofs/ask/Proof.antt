@@ -1,11 +1,13 @@
 -- `boundary_asking::ask` meets its contract.
-use Rattle.laws.specs.Usual.{_≡_, sym, ap, _∙_, false, _&&_, needs}
-use borrow.Author.Tests.{not-true, not-false}
+use Rattle.laws.specs.Usual.{_≡_, refl, sym, ap, ap₂, _∙_, false, _&&_, length, eqb, leb, needs}
+use borrow.Author.Tests.{leb-true, not-true, not-false}
 use Rattle.boundary_answers.specs.Numbers.{refusedAnswer}
-use Rattle.boundary_asking.specs.Carried.{carried}
+use Rattle.boundary_asking.specs.Carried.{carried, carried-known}
+use Rattle.boundary_bare.specs.Bare.{bare-asked}
 use Rattle.boundary_core.specs.Crossing.{coreOf, stationIn, stationOf}
 use Rattle.boundary_core.specs.declared.Core.{Core}
 use Rattle.boundary_lists.specs.Lists.{membersIn}
+use Rattle.boundary_participant.specs.Quick.{holdsBlock}
 use Rattle.boundary_places.specs.Laws.{core-in-back, left-alone}
 use Rattle.boundary_places.specs.Places.{coreIn}
 use Rattle.boundary_refused.specs.Due.{dueCore, askRefusal, refused-asked}
@@ -81,12 +83,12 @@ returns-2 c =
       ),
     )
 
-ask-due-requires : tie.Need-ask-due-requires
-ask-due-requires c κs =
-    let both = not-false _ (c .before .before .before .before .before .before .before .if2 .left) in
-    let lent = c .before .before .before .before .before .before .before .before .before .before .before .before .before .is-lent-right .result in
-    let due = c .before .before .before .before .before .before .before .before .is-due .result in
-    (sym (c .before .before .before .before .before .before .before .before .before .before .before .before .before .is-lent-right .ensures) ∙ first lent due both, sym (c .before .before .before .before .before .before .before .before .is-due .ensures) ∙ second lent due both)
+ask-bare-requires : tie.Need-ask-bare-requires
+ask-bare-requires c κs =
+    let a = c .before .before .before .before .before .before .before .before .before .before .before .before .before .before .before .before .before .before .args in
+    let lent = c .before .before .before .before .before .before .before .before .before .before .before .before .is-lent-right in
+    let right = sym (lent .ensures) ∙ first (lent .result) (c .before .before .before .before .before .before .before .is-due .result) (not-false _ (c .before .before .before .before .before .before .if2 .left)) in
+    leb-true 1088 (length (a .output .now)) (second (eqb (length (a .memory .now)) 17408 && eqb (length (a .turn .now)) 17408) (leb 1088 (length (a .output .now))) right)
 
 same-length-5 : tie.Need-same-length-5
 same-length-5 c = search needs
@@ -96,9 +98,18 @@ same-length-6 c = search needs
 
 returns-3 : tie.Need-returns-3
 returns-3 c =
-    let a = c .before .before .before .before .before .before .before .before .before .before .before .before .before .before .before .before .before .before .before .before .before .before .before .before .args in
+    let a = c .before .before .before .before .before .before .before .before .before .before .before .before .before .before .before .before .before .before .before .before .before .args in
+    let state = c .before .before .before .before .before .before .before .before .before .before .before .before .before .core-in .result in
+    let members = membersIn (a .listed .now) (a .areas .now) (a .watch .now) (a .misses .now) in
+    let lent = c .before .before .before .before .before .before .before .before .before .before .before .before .before .before .before .is-lent-right in
+    let due = c .before .before .before .before .before .before .before .before .before .before .is-due in
+    let both = not-false _ (c .before .before .before .before .before .before .before .before .before .if2 .left) in
+    let free : (holdsBlock state && lentRight (a .memory .now) (a .turn .now) (a .output .now)) ≡ false =
+    ap₂ _&&_ (sym (c .before .before .before .before .before .before .before .before .before .before .before .before .holds-block .ensures)) (sym (lent .ensures)) ∙ c .before .before .before .before .before .before .before .before .before .before .before .if1 .left in
+    let law = bare-asked state members (a .memory .now) (a .turn .now) (a .output .now) (sym (due .ensures) ∙ second (lent .result) (due .result) both) (sym (lent .ensures) ∙ first (lent .result) (due .result) both) free in
     let call : Core → Asking = λ (k : Core). askOf (stationIn k (a .listed .now) (a .areas .now) (a .watch .now) (a .misses .now)) (a .memory .now) (a .turn .now) (a .output .now) in
-    carried call (a .core .now) (c .before .before .before .before .before .before .before .before .before .before .before .before .before .before .before .before .core-in .ensures .0) (c .before .before .before .before .ask-due .ensures)
+    let done = c .before .before .ask-bare .ensures in
+    carried-known call (a .core .now) (c .before .before .before .before .before .before .before .before .before .before .before .before .before .core-in .ensures .0) law (done .0, (done .1 .0, (done .1 .1 .0, (refl, done .1 .1 .1))))
 
 pub ask-spec : {M : Type 1} → statement M
 ask-spec =
@@ -117,7 +128,7 @@ ask-spec =
     same-length-3
     same-length-4
     returns-2
-    ask-due-requires
+    ask-bare-requires
     same-length-5
     same-length-6
     returns-3)

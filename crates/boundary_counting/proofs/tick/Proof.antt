@@ -1,18 +1,23 @@
 -- `boundary_counting::tick` meets its contract.
-use Rattle.boundary_answers.specs.Numbers.{tickedAnswer}
-use Rattle.station.specs.Rules.Ticking.{Ticking}
 use Rattle.laws.specs.Usual.{sym, ap, _∙_, needs}
+use borrow.Author.Tests.{ne-eqb}
+use Rattle.boundary_answers.specs.Numbers.{tickedAnswer}
+use Rattle.boundary_core.specs.Crossing.{coreOf}
 use Rattle.boundary_lists.specs.Lists.{membersIn}
-use Rattle.boundary_participant.specs.Quick.{quiet-tick, quiet-core}
-use Rattle.boundary_waiting.specs.Ticks.{counts, stays-off}
+use Rattle.boundary_participant.specs.Quick.{isQuiet}
+use Rattle.boundary_waiting.specs.Ticks.{stays-off}
+use Rattle.boundary_waiting.specs.Waiting.{isWaiting}
+use Rattle.laws.specs.Tests.{neither-first, neither-second}
+use Rattle.station.specs.Rules.Ticking.{Ticking}
+use Rattle.boundary_counting.specs.Counting.{counted}
 use Rattle.boundary_counting.proofs.tick.Statement.{statement}
 use Rattle.boundary_counting.proofs.tick.Tie as tie
 
-is-quiet-requires : tie.Need-is-quiet-requires
-is-quiet-requires c κs = search needs
+counts-requires : tie.Need-counts-requires
+counts-requires c κs = search needs
 
-quiet-requires : tie.Need-quiet-requires
-quiet-requires c κs = search needs
+count-requires : tie.Need-count-requires
+count-requires c κs = search needs
 
 done-requires : tie.Need-done-requires
 done-requires c κs = search needs
@@ -20,70 +25,63 @@ done-requires c κs = search needs
 returns : tie.Need-returns
 returns c =
     let a = c .before .before .before .before .args in
-    let members = membersIn (a .listed .now) (a .areas .now) (a .watch .now) (a .misses .now) in
-    let still = sym (c .before .before .before .is-quiet .ensures) ∙ c .before .before .if1 .taken in
-    let law = quiet-tick (a .core) members still in (
-      c .before .quiet .ensures ∙ sym (quiet-core (a .core) members still),
-      (c .done .ensures ∙ sym (ap (λ (t : Ticking). tickedAnswer (t .answer)) law), sym (ap (λ (t : Ticking). t .station .members) law)),
-    )
+    let law = counted (a .core) (membersIn (a .listed .now) (a .areas .now) (a .watch .now) (a .misses .now)) (sym (c .before .before .before .counts .ensures) ∙ c .before .before .if1 .taken) in
+    (c .before .count .ensures ∙ law .0, (c .done .ensures ∙ law .1 .0, law .1 .1))
 
-is-waiting-requires : tie.Need-is-waiting-requires
-is-waiting-requires c κs = search needs
-
-count-requires : tie.Need-count-requires
-count-requires c κs = search needs
-
-done-requires-2 : tie.Need-done-requires-2
-done-requires-2 c κs = search needs
+tick-requires : tie.Need-tick-requires
+tick-requires c κs =
+    let core = c .before .before .before .before .before .before .before .before .args .core in
+    (c .before .before .before .before .if2 .taken, neither-first (isQuiet core) (isWaiting core) (sym (c .before .before .before .before .before .before .before .counts .ensures) ∙ c .before .before .before .before .before .before .if1 .left))
 
 returns-2 : tie.Need-returns-2
-returns-2 c =
-    let a = c .before .before .before .before .before .before .args in
-    let members = membersIn (a .listed .now) (a .areas .now) (a .watch .now) (a .misses .now) in
-    let law = counts (a .core) members (sym (c .before .before .before .is-waiting .ensures) ∙ c .before .before .if2 .taken) in (
-      c .before .count .ensures ∙ sym (law .1),
-      (c .done2 .ensures ∙ sym (ap (λ (t : Ticking). tickedAnswer (t .answer)) (law .0)), sym (ap (λ (t : Ticking). t .station .members) (law .0))),
-    )
+returns-2 c = c .tick .ensures
+
+tick-startup-requires : tie.Need-tick-startup-requires
+tick-startup-requires c κs =
+    let core = c .before .before .before .before .before .before .before .before .before .before .args .core in
+    (c .before .before .before .before .if3 .taken, neither-second (isQuiet core) (isWaiting core) (sym (c .before .before .before .before .before .before .before .before .before .counts .ensures) ∙ c .before .before .before .before .before .before .before .before .if1 .left))
+
+returns-3 : tie.Need-returns-3
+returns-3 c = c .tick-startup .ensures
+
+tick-joining-requires : tie.Need-tick-joining-requires
+tick-joining-requires c κs =
+    let core = c .before .before .before .before .before .before .before .before .before .before .before .before .args .core in
+    (c .before .before .before .before .if4 .taken, neither-second (isQuiet core) (isWaiting core) (sym (c .before .before .before .before .before .before .before .before .before .before .before .counts .ensures) ∙ c .before .before .before .before .before .before .before .before .before .before .if1 .left))
+
+returns-4 : tie.Need-returns-4
+returns-4 c = c .tick-joining .ensures
+
+kept-requires : tie.Need-kept-requires
+kept-requires c κs = search needs
 
 ticked-answer-requires : tie.Need-ticked-answer-requires
 ticked-answer-requires c κs = search needs
 
-returns-3 : tie.Need-returns-3
-returns-3 c =
-    let a = c .before .before .before .before .before .before .before .args in
-    let members = membersIn (a .listed .now) (a .areas .now) (a .watch .now) (a .misses .now) in
-    let law = stays-off (a .core) members (c .before .if3 .taken) in (
-      sym (law .1),
-      (c .ticked-answer .ensures ∙ sym (ap (λ (t : Ticking). tickedAnswer (t .answer)) (law .0)), sym (ap (λ (t : Ticking). t .station .members) (law .0))),
-    )
-
-tick-requires : tie.Need-tick-requires
-tick-requires c κs = (c .before .before .before .before .if4 .taken, sym (c .before .before .before .before .before .before .before .before .before .before .before .is-quiet .ensures) ∙ c .before .before .before .before .before .before .before .before .before .before .if1 .left)
-
-returns-4 : tie.Need-returns-4
-returns-4 c = search needs
-
-tick-requires-2 : tie.Need-tick-requires-2
-tick-requires-2 c κs = search needs
-
 returns-5 : tie.Need-returns-5
-returns-5 c = search needs
+returns-5 c =
+    let a = c .before .before .before .before .before .before .before .before .before .before .args in
+    let ends = neither-second (isQuiet (a .core)) (isWaiting (a .core)) (sym (c .before .before .before .before .before .before .before .before .before .counts .ensures) ∙ c .before .before .before .before .before .before .before .before .if1 .left) in
+    let members = membersIn (a .listed .now) (a .areas .now) (a .watch .now) (a .misses .now) in
+    let law = stays-off (a .core) members ends (ne-eqb _ _ (c .before .before .before .before .if3 .left)) (ne-eqb _ _ (c .before .before .if4 .left)) (ne-eqb _ _ (c .before .before .before .before .before .before .if2 .left)) in (
+      c .before .kept .ensures ∙ sym (ap (λ (t : Ticking). coreOf (t .station)) law),
+      (c .ticked-answer .ensures ∙ sym (ap (λ (t : Ticking). tickedAnswer (t .answer)) law), sym (ap (λ (t : Ticking). t .station .members) law)),
+    )
 
 pub tick-spec : {M : Type 1} → statement M
 tick-spec =
     tie.close
     (tie.spec
-    is-quiet-requires
-    quiet-requires
+    counts-requires
+    count-requires
     done-requires
     returns
-    is-waiting-requires
-    count-requires
-    done-requires-2
-    returns-2
-    ticked-answer-requires
-    returns-3
     tick-requires
+    returns-2
+    tick-startup-requires
+    returns-3
+    tick-joining-requires
     returns-4
-    tick-requires-2
+    kept-requires
+    ticked-answer-requires
     returns-5)

@@ -1,12 +1,11 @@
 -- `boundary_running::stop` meets its contract.
-use Rattle.laws.specs.Usual.{_≡_, sym, ap, _∙_, true, needs}
+use Rattle.laws.specs.Usual.{_≡_, sym, ap, _∙_, true, false, needs}
 use Rattle.boundary_answers.specs.Numbers.{switchedAnswer}
 use Rattle.boundary_core.specs.Crossing.{phaseOf, coreOf, stationIn}
 use Rattle.frame.specs.declared.Refusal.the-variants.{NotDue}
 use Rattle.station.specs.Rules.Starting.{Switching, stopOf}
-use Rattle.station.specs.Rules.State.{isOff}
-use Rattle.station.specs.declared.Station.{Station}
-use Rattle.station.specs.declared.Switched.the-variants.{Refused}
+use Rattle.station.specs.Rules.State.{isOff, stopped}
+use Rattle.station.specs.declared.Switched.the-variants.{Done, Refused}
 use Rattle.boundary_running.proofs.stop.Statement.{statement}
 use Rattle.boundary_running.proofs.stop.Tie as tie
 
@@ -16,8 +15,8 @@ phase-of-requires c κs = search needs
 is-off-requires : tie.Need-is-off-requires
 is-off-requires c κs = search needs
 
-not-due-requires : tie.Need-not-due-requires
-not-due-requires c κs = search needs
+refuse-requires : tie.Need-refuse-requires
+refuse-requires c κs = search needs
 
 returns : tie.Need-returns
 returns c =
@@ -25,30 +24,25 @@ returns c =
     let station = stationIn (a .core) (a .listed .now) (a .areas .now) (a .watch .now) (a .misses .now) in
     let off : isOff (phaseOf (a .core .phase)) ≡ true = ap isOff (sym (c .before .before .before .phase-of .ensures)) ∙ sym (c .before .before .is-off .ensures) ∙ c .before .if1 .taken in
     let law : stopOf station ≡ record { station = station; answer = Refused NotDue } = rw off in (
-      c .not-due .ensures .0 ∙ sym (ap (λ (t : Switching). coreOf (t .station)) law),
-      (c .not-due .ensures .1 ∙ sym (ap (λ (t : Switching). switchedAnswer (t .answer)) law), sym (ap (λ (t : Switching). t .station .members) law)),
+      c .refuse .ensures .0 ∙ sym (ap (λ (t : Switching). coreOf (t .station)) law),
+      (c .refuse .ensures .1 ∙ sym (ap (λ (t : Switching). switchedAnswer (t .answer)) law), sym (ap (λ (t : Switching). t .station .members) law)),
     )
 
-station-of-requires : tie.Need-station-of-requires
-station-of-requires c κs = search needs
+turn-off-requires : tie.Need-turn-off-requires
+turn-off-requires c κs = search needs
 
-stop-requires : tie.Need-stop-requires
-stop-requires c κs = search needs
-
-switched-answer-requires : tie.Need-switched-answer-requires
-switched-answer-requires c κs = search needs
-
-keep-requires : tie.Need-keep-requires
-keep-requires c κs = search needs
+done-requires : tie.Need-done-requires
+done-requires c κs = search needs
 
 returns-2 : tie.Need-returns-2
 returns-2 c =
-    let known = c .before .before .before .before .before .before .before .before .station-of .ensures in
-    let done = c .before .before .before .before .before .before .before .stop .ensures in
-    let kept = c .keep .ensures in
-    let after = done .0 ∙ ap (λ (s : Station). stopOf s .station) known in
-    let answer = done .1 ∙ ap (λ (s : Station). stopOf s .answer) known in
-    (kept .0 ∙ ap coreOf after, (kept .1 .0 ∙ (c .before .before .before .before .before .switched-answer .ensures ∙ ap switchedAnswer answer), kept .1 .1 ∙ ap (λ (s : Station). s .members) after))
+    let a = c .before .before .before .before .before .before .before .before .before .args in
+    let station = stationIn (a .core) (a .listed .now) (a .areas .now) (a .watch .now) (a .misses .now) in
+    let on : isOff (phaseOf (a .core .phase)) ≡ false = ap isOff (sym (c .before .before .before .before .before .before .before .before .phase-of .ensures)) ∙ sym (c .before .before .before .before .before .before .before .is-off .ensures) ∙ c .before .before .before .before .before .before .if1 .left in
+    let law : stopOf station ≡ record { station = stopped station; answer = Done } = rw on in (
+      c .before .turn-off .ensures .0 ∙ sym (ap (λ (t : Switching). coreOf (t .station)) law),
+      (c .done .ensures ∙ sym (ap (λ (t : Switching). switchedAnswer (t .answer)) law), c .before .turn-off .ensures .1 ∙ sym (ap (λ (t : Switching). t .station .members) law)),
+    )
 
 pub stop-spec : {M : Type 1} → statement M
 stop-spec =
@@ -56,10 +50,8 @@ stop-spec =
     (tie.spec
     phase-of-requires
     is-off-requires
-    not-due-requires
+    refuse-requires
     returns
-    station-of-requires
-    stop-requires
-    switched-answer-requires
-    keep-requires
+    turn-off-requires
+    done-requires
     returns-2)

@@ -1,44 +1,18 @@
 -- `starting::start` meets its contract.
-use Rattle.laws.specs.Usual.{sym, _∙_, not, needs}
-use borrow.Author.Tests.{not-true, not-false}
+use Rattle.laws.specs.Usual.{sym, ap, _∙_, needs}
+use Rattle.station.specs.Rules.Starting.{Switching}
+use Rattle.station.specs.Rules.State.{fresh}
+use Rattle.station.specs.declared.Phase.the-variants.{Listening}
+use Rattle.station.specs.declared.Switched.{Switched}
+use Rattle.starting.specs.Answers.{leftBy, started}
 use Rattle.starting.proofs.start.Statement.{statement}
 use Rattle.starting.proofs.start.Tie as tie
 
-is-off-requires : tie.Need-is-off-requires
-is-off-requires c κs = search needs
+start-answer-requires : tie.Need-start-answer-requires
+start-answer-requires c κs = search needs
 
-refused-requires : tie.Need-refused-requires
-refused-requires c κs = search needs
-
-returns : tie.Need-returns
-returns c =
-    let on = sym (c .before .before .is-off .ensures) ∙ not-true _ (c .before .if1 .taken) in
-    (c .refused .ensures .0 ∙ rw on, c .refused .ensures .1 ∙ rw on)
-
-is-numbered-requires : tie.Need-is-numbered-requires
-is-numbered-requires c κs = search needs
-
-refused-requires-2 : tie.Need-refused-requires-2
-refused-requires-2 c κs = search needs
-
-returns-2 : tie.Need-returns-2
-returns-2 c =
-    let off = sym (c .before .before .before .before .is-off .ensures) ∙ not-false _ (c .before .before .before .if1 .left) in
-    let not = sym (c .before .before .is-numbered .ensures) ∙ not-true _ (c .before .if2 .taken) in
-    (c .refused2 .ensures .0 ∙ rw (off, not), c .refused2 .ensures .1 ∙ rw (off, not))
-
-in-range-requires : tie.Need-in-range-requires
-in-range-requires c κs = search needs
-
-refused-requires-3 : tie.Need-refused-requires-3
-refused-requires-3 c κs = search needs
-
-returns-3 : tie.Need-returns-3
-returns-3 c =
-    let off = sym (c .before .before .before .before .before .before .is-off .ensures) ∙ not-false _ (c .before .before .before .before .before .if1 .left) in
-    let numbered = sym (c .before .before .before .before .is-numbered .ensures) ∙ not-false _ (c .before .before .before .if2 .left) in
-    let out = sym (c .before .before .in-range .ensures) ∙ not-true _ (c .before .if3 .taken) in
-    (c .refused3 .ensures .0 ∙ rw (off, numbered, out), c .refused3 .ensures .1 ∙ rw (off, numbered, out))
+enum-told : tie.Need-enum-told
+enum-told c = search needs
 
 fresh-requires : tie.Need-fresh-requires
 fresh-requires c κs = search needs
@@ -46,26 +20,35 @@ fresh-requires c κs = search needs
 done-requires : tie.Need-done-requires
 done-requires c κs = search needs
 
-returns-4 : tie.Need-returns-4
-returns-4 c =
-    let off = sym (c .before .before .before .before .before .before .before .is-off .ensures) ∙ not-false _ (c .before .before .before .before .before .before .if1 .left) in
-    let numbered = sym (c .before .before .before .before .before .is-numbered .ensures) ∙ not-false _ (c .before .before .before .before .if2 .left) in
-    let ranged = sym (c .before .before .before .in-range .ensures) ∙ not-false _ (c .before .before .if3 .left) in
-    (c .done .ensures .0 ∙ rw (c .before .fresh .ensures, off, numbered, ranged), c .done .ensures .1 ∙ rw (off, numbered, ranged))
+enum-known-refusal : tie.Need-enum-known-refusal
+enum-known-refusal c = search needs
+
+refused-requires : tie.Need-refused-requires
+refused-requires c κs = search needs
+
+returns : tie.Need-returns
+returns c =
+    let a = c .before .before .before .before .before .args in
+    let answer = sym (c .before .before .before .before .start-answer .ensures) ∙ c .before .before .enum-told .given .1 in
+    let law = started (a .station) (a .own) ∙ ap (λ (s : Switched). leftBy s (fresh Listening (a .own)) (a .station)) answer in
+    (c .done .ensures .0 ∙ c .before .fresh .ensures ∙ sym (ap (λ (t : Switching). t .station) law), c .done .ensures .1 ∙ sym (ap (λ (t : Switching). t .answer) law))
+
+returns-2 : tie.Need-returns-2
+returns-2 c =
+    let a = c .before .before .before .before .before .args in
+    let answer = sym (c .before .before .before .before .start-answer .ensures) ∙ c .before .before .refusal .given .1 in
+    let law = started (a .station) (a .own) ∙ ap (λ (s : Switched). leftBy s (fresh Listening (a .own)) (a .station)) answer in
+    (c .refused .ensures .0 ∙ sym (ap (λ (t : Switching). t .station) law), c .refused .ensures .1 ∙ sym (ap (λ (t : Switching). t .answer) law))
 
 pub start-spec : {M : Type 1} → statement M
 start-spec =
     tie.close
     (tie.spec
-    is-off-requires
-    refused-requires
-    returns
-    is-numbered-requires
-    refused-requires-2
-    returns-2
-    in-range-requires
-    refused-requires-3
-    returns-3
+    start-answer-requires
+    enum-told
     fresh-requires
     done-requires
-    returns-4)
+    enum-known-refusal
+    refused-requires
+    returns
+    returns-2)

@@ -1,0 +1,2 @@
+-- Ticks that only count.
+pub mod Counting

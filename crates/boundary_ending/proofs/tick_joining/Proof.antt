@@ -1,0 +1,70 @@
+-- `boundary_ending::tick_joining` meets its contract.
+use Rattle.laws.specs.Usual.{refl, sym, ap, ap₂, _∙_, ℕ, leb, needs}
+use borrow.Author.Tests.{le-leb, lt-leb}
+use Rattle.boundary_core.specs.Crossing.{stationOf}
+use Rattle.boundary_core.specs.declared.Core.{Core}
+use Rattle.boundary_lists.specs.Lists.{membersIn}
+use Rattle.station.specs.Rules.Starting.{ownDue}
+use Rattle.station.specs.Rules.State.{fresh}
+use Rattle.station.specs.declared.Phase.the-variants.{Listening}
+use Rattle.boundary_falling_due.specs.Due.{ownedCore}
+use Rattle.boundary_ending.specs.Ending.{leaves, dueCore, joining-ends, joining-due}
+use Rattle.boundary_ending.proofs.tick_joining.Statement.{statement}
+use Rattle.boundary_ending.proofs.tick_joining.Tie as tie
+
+count-requires : tie.Need-count-requires
+count-requires c κs = search needs
+
+detection-wait-requires : tie.Need-detection-wait-requires
+detection-wait-requires c κs = search needs
+
+begin-requires : tie.Need-begin-requires
+begin-requires c κs = search needs
+
+done-requires : tie.Need-done-requires
+done-requires c κs = search needs
+
+returns : tie.Need-returns
+returns c =
+    let start = c .before .before .before .before .before .before .before .before .before .before .before .before .before in
+    let a = start .args in
+    let members = membersIn (a .listed .now) (a .areas .now) (a .watch .now) (a .misses .now) in
+    let ends = ap₂ (λ (time : ℕ) (core : Core). leb time (core .elapsed .0)) (sym (c .before .before .before .before .before .before .before .before .before .before .detection-wait .ensures)) (sym (c .before .before .before .before .before .before .before .before .before .before .before .count .ensures)) ∙ le-leb _ _ (c .before .before .before .before .before .before .if1 .taken) in
+    leaves (stationOf (a .core) members) (fresh Listening (a .core .own))
+    (joining-ends (a .core) members (start .pre .0) ends)
+    (c .done .ensures .0 ∙ c .before .begin .ensures .0)
+    (c .done .ensures .1)
+    (c .before .begin .ensures .1)
+
+fall-due-requires : tie.Need-fall-due-requires
+fall-due-requires c κs = search needs
+
+done-requires-2 : tie.Need-done-requires-2
+done-requires-2 c κs = search needs
+
+returns-2 : tie.Need-returns-2
+returns-2 c =
+    let start = c .before .before .before .before .before .before .before .before .before .before .before .before .before in
+    let a = start .args in
+    let members = membersIn (a .listed .now) (a .areas .now) (a .watch .now) (a .misses .now) in
+    let counted = c .before .before .before .before .before .before .before .before .before .before .before .count .ensures in
+    let runs = ap₂ (λ (time : ℕ) (core : Core). leb time (core .elapsed .0)) (sym (c .before .before .before .before .before .before .before .before .before .before .detection-wait .ensures)) (sym counted) ∙ lt-leb _ _ (c .before .before .before .before .before .before .if1 .left) in
+    let law = joining-due (a .core) members (start .pre .0) runs (start .pre .1) in
+    leaves (stationOf (a .core) members) (stationOf (dueCore (a .core) members) members)
+    (law .0)
+    (c .done2 .ensures .0 ∙ c .before .fall-due .ensures ∙ ap (λ (core : Core). ownedCore core (ownDue (core .own) members)) counted ∙ law .1)
+    (c .done2 .ensures .1)
+    refl
+
+pub tick-joining-spec : {M : Type 1} → statement M
+tick-joining-spec =
+    tie.close
+    (tie.spec
+    count-requires
+    detection-wait-requires
+    begin-requires
+    done-requires
+    returns
+    fall-due-requires
+    done-requires-2
+    returns-2)

@@ -1,0 +1,3 @@
+-- A tick that ends a wait before we participate.
+pub mod Ending
+pub mod Started
