@@ -30,9 +30,19 @@ mod calls {
     // A slice goes as a pointer and a length, here too.
     #![allow(improper_ctypes_definitions)]
 
-    use flnet_conformance::boundary::Answer;
+    use flnet_conformance::boundary::{Answer, Settings};
     use flnet_conformance::engine::Engine;
     use flnet_conformance::model::Model;
+
+    #[inline(never)]
+    pub extern "C" fn start(model: &mut Model, own: Settings) -> Answer {
+        Engine::start(model, own)
+    }
+
+    #[inline(never)]
+    pub extern "C" fn stop(model: &mut Model) -> Answer {
+        Engine::stop(model)
+    }
 
     #[inline(never)]
     pub extern "C" fn tick(model: &mut Model) -> Answer {
@@ -66,11 +76,11 @@ struct Called(Model);
 
 impl Engine for Called {
     fn start(&mut self, own: boundary::Settings) -> Answer {
-        Engine::start(&mut self.0, own)
+        calls::start(&mut self.0, own)
     }
 
     fn stop(&mut self) -> Answer {
-        Engine::stop(&mut self.0)
+        calls::stop(&mut self.0)
     }
 
     fn tick(&mut self) -> Answer {
@@ -130,6 +140,14 @@ impl<E: Engine + Default> Host<E> {
 
     // The state is hidden from the optimizer at each call, as it is where calls come one by one, and
     // so is what is done with the answer.
+    fn start(&mut self, own: Settings) {
+        black_box(black_box(&mut self.station).start(black_box(own).into()));
+    }
+
+    fn stop(&mut self) {
+        black_box(black_box(&mut self.station).stop());
+    }
+
     fn tick(&mut self) {
         black_box(black_box(&mut self.station).tick());
     }
@@ -219,6 +237,40 @@ fn quiet() -> (impl FnMut() -> f64, impl FnMut() -> f64) {
         black_box(black_box(&model).clone().ticks(watch));
     });
     (proved, stepped)
+}
+
+/// A start with number 0, at an off station.
+fn start_refused<E: Engine + Default>() -> impl FnMut() -> f64 {
+    let own = settings(0, Areas::default());
+    let mut station = Host::<E>::started(own);
+    measurement(16_000, 1, move || station.start(own))
+}
+
+/// A start and a stop, each of which empties the list.
+fn start_stop<E: Engine + Default>() -> impl FnMut() -> f64 {
+    let own = share(9, 512);
+    let mut station = Host::<E>::started(own);
+    measurement(4000, 2, move || {
+        station.stop();
+        station.start(own);
+    })
+}
+
+/// From a stop to participating: a trigger and a request heard, then all ticks of ring startup in one
+/// call, in which our request falls due and lapses.
+fn ring_startup<E: Engine + Default>() -> impl FnMut() -> f64 {
+    let own = share(9, 512);
+    let mut station = Host::<E>::started(own);
+    let mut random = Random::new(1);
+    let trigger = Frame::trigger(2).octets(&mut random);
+    let request = Frame::request(2, share(2, 512).areas).octets(&mut random);
+    measurement(20, 1, move || {
+        station.stop();
+        station.start(own);
+        station.hear(&trigger);
+        station.hear(&request);
+        station.ticks(waits::ACCEPTANCE);
+    })
 }
 
 /// Hears these frames in turn, with the same outcome each time.
@@ -447,6 +499,24 @@ fn main() {
         NANOSECOND,
         tick_watch::<Station>(),
         tick_watch::<Called>(),
+    );
+    line(
+        "start refused (5)",
+        NANOSECOND,
+        start_refused::<Station>(),
+        start_refused::<Called>(),
+    );
+    line(
+        "start or stop",
+        NANOSECOND,
+        start_stop::<Station>(),
+        start_stop::<Called>(),
+    );
+    line(
+        "ring startup, its ticks in one call",
+        NANOSECOND,
+        ring_startup::<Station>(),
+        ring_startup::<Called>(),
     );
     for (what, frame) in plain_frames() {
         line(
