@@ -33,12 +33,12 @@ leaves station after law same-core same-answer same-members = (
 
 module _ (core : Core) (members : Members) where
   -- the core after a tick in which our request falls due
-  abbrev pub dueCore : Core
-  dueCore = ownedCore (waitedCore core) (ownDue (core .own) members)
+  abbrev pub afterDue : Core
+  afterDue = ownedCore (waitedCore core) (ownDue (core .own) members)
 
   -- the tick does no more than that, and the core is in its phase
   abbrev pub FallsDue : Type 0
-  FallsDue = (tickOf (stationOf core members) ≡ record { station = stationOf dueCore members; answer = Done }) × (dueCore ≡ coreOf (stationOf dueCore members))
+  FallsDue = (tickOf (stationOf core members) ≡ record { station = stationOf afterDue members; answer = Done }) × (afterDue ≡ coreOf (stationOf afterDue members))
 
   -- in ring startup
   module _ (two : core .phase ≡ 2) where

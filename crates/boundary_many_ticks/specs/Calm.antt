@@ -16,8 +16,8 @@ use Rattle.boundary_core.specs.declared.Core.{Core}
 abbrev pub countsIn : Core → Counts
 countsIn core = record { elapsed = core .elapsed; waited = core .waited; panel = core .panel }
 
-abbrev pub countedCore : Core → Counts → Core
-countedCore core counts = record {
+abbrev pub recounted : Core → Counts → Core
+recounted core counts = record {
   phase = core .phase;
   own = core .own;
   elapsed = counts .elapsed;

@@ -10,7 +10,7 @@ ghost use Rattle.boundary_answers.specs.Numbers.{tickedAnswer};
 ghost use Rattle.boundary_core.specs.Crossing.{coreOf, stationIn};
 ghost use Rattle.boundary_lists.specs.Lists.{membersIn};
 ghost use Rattle.ticking_quiet.specs.Many.{afterTicks, ticksOf};
-ghost use Rattle.boundary_many_ticks.specs.Calm.{countsIn, countedCore, isCalm, calmCore};
+ghost use Rattle.boundary_many_ticks.specs.Calm.{countsIn, recounted, isCalm, calmCore};
 ghost use Rattle.boundary_many_ticks.specs.Jump.{aloneIn};
 
 // A core, and the ticks that are still to come.
@@ -33,7 +33,7 @@ fn counts_in(core: Core) -> Counts
 }
 
 fn with_counts(core: Core, counts: Counts) -> Core
-    ensures { λ r. ⌜ r ≡ countedCore core counts ⌝ }
+    ensures { λ r. ⌜ r ≡ recounted core counts ⌝ }
 {
     let elapsed = counts.elapsed;
     let waited = counts.waited;

@@ -8,7 +8,7 @@ use Rattle.station.specs.Rules.Starting.{ownDue}
 use Rattle.station.specs.Rules.State.{fresh}
 use Rattle.station.specs.declared.Phase.the-variants.{Listening}
 use Rattle.boundary_falling_due.specs.Due.{ownedCore}
-use Rattle.boundary_ending.specs.Ending.{leaves, dueCore, joining-ends, joining-due}
+use Rattle.boundary_ending.specs.Ending.{leaves, afterDue, joining-ends, joining-due}
 use Rattle.boundary_ending.proofs.tick_joining.Statement.{statement}
 use Rattle.boundary_ending.proofs.tick_joining.Tie as tie
 
@@ -50,7 +50,7 @@ returns-2 c =
     let counted = c .before .before .before .before .before .before .before .before .before .before .before .count .ensures in
     let runs = ap₂ (λ (time : ℕ) (core : Core). leb time (core .elapsed .0)) (sym (c .before .before .before .before .before .before .before .before .before .before .detection-wait .ensures)) (sym counted) ∙ lt-leb _ _ (c .before .before .before .before .before .before .if1 .left) in
     let law = joining-due (a .core) members (start .pre .0) runs (start .pre .1) in
-    leaves (stationOf (a .core) members) (stationOf (dueCore (a .core) members) members)
+    leaves (stationOf (a .core) members) (stationOf (afterDue (a .core) members) members)
     (law .0)
     (c .done2 .ensures .0 ∙ c .before .fall-due .ensures ∙ ap (λ (core : Core). ownedCore core (ownDue (core .own) members)) counted ∙ law .1)
     (c .done2 .ensures .1)
