@@ -16,9 +16,9 @@ abbrev pub startAnswer : Phase → Settings → Switched
 startAnswer phase own = startOf (fresh phase own) own .answer
 
 -- a call that leaves one state where it is done, and another where it is refused
-abbrev pub leftBy : Switched → Station → Station → Switching
-leftBy Done after before = record { station = after; answer = Done }
-leftBy (Refused refusal) after before = record { station = before; answer = Refused refusal }
+abbrev pub switchedBy : Switched → Station → Station → Switching
+switchedBy Done after before = record { station = after; answer = Done }
+switchedBy (Refused refusal) after before = record { station = before; answer = Refused refusal }
 
 -- the three tests of a start
 abbrev tested : Settings → Bool → Bool → Bool → Station → Switching
@@ -27,11 +27,11 @@ tested own off address range before =
     (need address refusals.Address before
     (need range refusals.Area before (record { station = fresh Listening own; answer = Done })))
 
-pub started : (station : Station) (own : Settings) → startOf station own ≡ leftBy (startAnswer (station .phase) own) (fresh Listening own) station
+pub started : (station : Station) (own : Settings) → startOf station own ≡ switchedBy (startAnswer (station .phase) own) (fresh Listening own) station
 started station own = by (isOff (station .phase)) (isStation (own .number) && ltb 0 (own .watch .0)) (inRange (own .areas))
   where
     by : (off address range : Bool)
-        → tested own off address range station ≡ leftBy (tested own off address range (fresh (station .phase) own) .answer) (fresh Listening own) station
+        → tested own off address range station ≡ switchedBy (tested own off address range (fresh (station .phase) own) .answer) (fresh Listening own) station
     by true true true = refl
     by true true false = refl
     by true false range = refl

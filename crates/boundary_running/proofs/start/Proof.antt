@@ -2,7 +2,7 @@
 use Rattle.laws.specs.Usual.{sym, ap, _∙_, needs}
 use Rattle.boundary_answers.specs.Numbers.{switchedAnswer}
 use Rattle.boundary_core.specs.Crossing.{coreOf, stationIn}
-use Rattle.starting.specs.Answers.{startAnswer, leftBy, started}
+use Rattle.starting.specs.Answers.{startAnswer, switchedBy, started}
 use Rattle.station.specs.Rules.Starting.{Switching}
 use Rattle.station.specs.Rules.State.{fresh}
 use Rattle.station.specs.declared.Phase.{Phase}
@@ -37,7 +37,7 @@ returns c =
     let a = c .before .before .before .before .before .before .before .before .before .before .args in
     let station = stationIn (a .core) (a .listed .now) (a .areas .now) (a .watch .now) (a .misses .now) in
     let answer = ap (λ (p : Phase). startAnswer p (a .own)) (sym (c .before .before .before .before .before .before .before .before .before .phase-of .ensures)) ∙ sym (c .before .before .before .before .before .before .before .before .start-answer .ensures) ∙ c .before .before .before .before .before .before .enum-told .given .1 in
-    let law = started station (a .own) ∙ ap (λ (s : Switched). leftBy s (fresh Listening (a .own)) station) answer in (
+    let law = started station (a .own) ∙ ap (λ (s : Switched). switchedBy s (fresh Listening (a .own)) station) answer in (
       c .before .begin .ensures .0 ∙ sym (ap (λ (t : Switching). coreOf (t .station)) law),
       (c .done .ensures ∙ sym (ap (λ (t : Switching). switchedAnswer (t .answer)) law), c .before .begin .ensures .1 ∙ sym (ap (λ (t : Switching). t .station .members) law)),
     )
@@ -47,7 +47,7 @@ returns-2 c =
     let a = c .before .before .before .before .before .before .args in
     let station = stationIn (a .core) (a .listed .now) (a .areas .now) (a .watch .now) (a .misses .now) in
     let answer = ap (λ (p : Phase). startAnswer p (a .own)) (sym (c .before .before .before .before .before .phase-of .ensures)) ∙ sym (c .before .before .before .before .start-answer .ensures) ∙ c .before .before .refusal .given .1 in
-    let law = started station (a .own) ∙ ap (λ (s : Switched). leftBy s (fresh Listening (a .own)) station) answer in (
+    let law = started station (a .own) ∙ ap (λ (s : Switched). switchedBy s (fresh Listening (a .own)) station) answer in (
       c .refuse .ensures .0 ∙ sym (ap (λ (t : Switching). coreOf (t .station)) law),
       (c .refuse .ensures .1 ∙ sym (ap (λ (t : Switching). switchedAnswer (t .answer)) law), sym (ap (λ (t : Switching). t .station .members) law)),
     )

@@ -4,7 +4,7 @@ use Rattle.station.specs.Rules.Starting.{Switching}
 use Rattle.station.specs.Rules.State.{fresh}
 use Rattle.station.specs.declared.Phase.the-variants.{Listening}
 use Rattle.station.specs.declared.Switched.{Switched}
-use Rattle.starting.specs.Answers.{leftBy, started}
+use Rattle.starting.specs.Answers.{switchedBy, started}
 use Rattle.starting.proofs.start.Statement.{statement}
 use Rattle.starting.proofs.start.Tie as tie
 
@@ -30,14 +30,14 @@ returns : tie.Need-returns
 returns c =
     let a = c .before .before .before .before .before .args in
     let answer = sym (c .before .before .before .before .start-answer .ensures) ∙ c .before .before .enum-told .given .1 in
-    let law = started (a .station) (a .own) ∙ ap (λ (s : Switched). leftBy s (fresh Listening (a .own)) (a .station)) answer in
+    let law = started (a .station) (a .own) ∙ ap (λ (s : Switched). switchedBy s (fresh Listening (a .own)) (a .station)) answer in
     (c .done .ensures .0 ∙ c .before .fresh .ensures ∙ sym (ap (λ (t : Switching). t .station) law), c .done .ensures .1 ∙ sym (ap (λ (t : Switching). t .answer) law))
 
 returns-2 : tie.Need-returns-2
 returns-2 c =
     let a = c .before .before .before .before .before .args in
     let answer = sym (c .before .before .before .before .start-answer .ensures) ∙ c .before .before .refusal .given .1 in
-    let law = started (a .station) (a .own) ∙ ap (λ (s : Switched). leftBy s (fresh Listening (a .own)) (a .station)) answer in
+    let law = started (a .station) (a .own) ∙ ap (λ (s : Switched). switchedBy s (fresh Listening (a .own)) (a .station)) answer in
     (c .refused .ensures .0 ∙ sym (ap (λ (t : Switching). t .station) law), c .refused .ensures .1 ∙ sym (ap (λ (t : Switching). t .answer) law))
 
 pub start-spec : {M : Type 1} → statement M
