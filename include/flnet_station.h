@@ -107,7 +107,8 @@ typedef struct {
 typedef struct {
     uint8_t number; /* 1 to 254 */
     flnet_areas areas;
-    uint8_t watch; /* the watch time, 1 to 255 milliseconds: longer than any gap between two frames of a station's turn that a late host makes */
+    uint8_t watch; /* the watch time, 1 to 255 milliseconds: longer than any gap between two frames of our turn that a late host makes. The others
+                      list it, and watch us by it while they take us for the holder */
 } flnet_settings;
 
 /*
@@ -117,7 +118,7 @@ typedef struct {
 typedef struct {
     bool listed[256];
     uint16_t areas[1024]; /* four for each station: address and size in area 1, address and size in area 2 */
-    uint8_t watch[256];   /* watch times in milliseconds */
+    uint8_t watch[256];   /* watch times in milliseconds; 0 counts as 1 */
     uint8_t misses[256];  /* in a row, 0 to 2 */
 } flnet_list;
 
@@ -215,7 +216,8 @@ flnet_answer flnet_stop(flnet_core *core, bool *listed, uint16_t *areas, uint8_t
 /*
  * Every 100 microseconds: off or done. A host that was not scheduled in time catches up: it orders what it has received by the time of its
  * arrival, ticks up to each and hears it, ticks up to now, and only then asks. A watch time has to be longer than the host can be late, or
- * the others take the token from it.
+ * the others take the token from it. A participant's watch runs for the time listed for the station in view, for our own time while we hold
+ * or where that station is not listed.
  */
 flnet_answer flnet_tick(flnet_core *core, bool *listed, uint16_t *areas, uint8_t *watch, uint8_t *misses);
 
@@ -229,9 +231,9 @@ flnet_answer flnet_ticks(flnet_core *core, bool *listed, uint16_t *areas, uint8_
 /*
  * How many ticks can come, with no other call between, before one brings news: another phase, another view, or a frame that was not due
  * before. A frame that is due already is no news, so ask first. A host can then sleep until one tick more than these have come, or until
- * a frame comes; it ticks up to that moment with flnet_ticks, and hears or asks as ever. Of the list only the flags are read.
+ * a frame comes; it ticks up to that moment with flnet_ticks, and hears or asks as ever. Of the list only the flags and the watch times are read.
  */
-flnet_quiet_ticks flnet_quiet(const flnet_core *core, const bool *listed);
+flnet_quiet_ticks flnet_quiet(const flnet_core *core, const bool *listed, const uint8_t *watch);
 
 /*
  * A frame from the wire, but not one of ours that the network gives back: a station that hears its own number before it participates is
@@ -283,7 +285,7 @@ static inline flnet_answer flnet_station_ticks(flnet_station *station, uint32_t 
 
 static inline flnet_quiet_ticks flnet_station_quiet(const flnet_station *station)
 {
-    return flnet_quiet(&station->core, station->list.listed);
+    return flnet_quiet(&station->core, station->list.listed, station->list.watch);
 }
 
 static inline flnet_answer flnet_station_hear(flnet_station *station, const uint8_t *octets, size_t octets_length, uint8_t *memory,

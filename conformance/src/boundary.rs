@@ -325,7 +325,7 @@ mod calls {
             misses: *mut u8,
             count: u32,
         ) -> Answer;
-        pub fn flnet_quiet(core: *const Core, listed: *const bool) -> Quiet;
+        pub fn flnet_quiet(core: *const Core, listed: *const bool, watch: *const u8) -> Quiet;
         pub fn flnet_hear(
             core: *mut Core,
             listed: *mut bool,
@@ -410,7 +410,13 @@ impl Station {
 
     pub fn quiet(&self) -> Quiet {
         // SAFETY: the core and the flags have the header's lengths and are only read.
-        unsafe { calls::flnet_quiet(&self.core, self.list.listed.as_ptr()) }
+        unsafe {
+            calls::flnet_quiet(
+                &self.core,
+                self.list.listed.as_ptr(),
+                self.list.watch.as_ptr(),
+            )
+        }
     }
 
     pub fn hear(&mut self, octets: &[u8], memory: &mut [u8], assembly: &mut [u8]) -> Answer {

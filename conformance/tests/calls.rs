@@ -7,11 +7,11 @@ use crate::given_seed;
 use flnet_conformance::both::Both;
 use flnet_conformance::boundary::Answer;
 use flnet_conformance::call::{Call, ROOM};
+use flnet_conformance::choices::due::until_next;
 use flnet_conformance::choices::{Action, Choices};
 use flnet_conformance::coverage::{Coverage, Step};
 use flnet_conformance::frames::Frame;
 use flnet_conformance::model::frame::Code;
-use flnet_conformance::model::waits;
 use flnet_conformance::names::*;
 use flnet_conformance::random::Random;
 use std::time::{SystemTime, UNIX_EPOCH};
@@ -103,7 +103,7 @@ impl Driver<'_> {
         let mut ticked = self.both.state().core.running;
         while ticked < target && self.both.state().core.phase() == PARTICIPATING {
             let state = self.both.state();
-            let until_watch = waits::watch(state.core.own().watch) - state.core.elapsed;
+            let until_watch = until_next(state);
             let count = (target - ticked).min(until_watch.max(2) - 1);
             self.ticks(count);
             ticked += count;

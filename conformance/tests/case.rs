@@ -57,13 +57,17 @@ pub fn settings(number: u8, areas: Areas, watch: u8) -> Settings {
     }
 }
 
-/// A station that came to participate by ring startup with these others.
+/// A station that came to participate by ring startup with these others, all of one watch time.
 pub fn participant(own: Settings, others: &[(u8, Areas)]) -> Case {
     let mut case = Case::new();
     assert_eq!(case.both.start(own).word, WORD_DONE);
     case.hear(Frame::trigger(others[0].0));
     for &(number, areas) in others {
-        assert_eq!(case.hear(Frame::request(number, areas)).word, WORD_DONE);
+        let request = Frame {
+            watch: own.watch,
+            ..Frame::request(number, areas)
+        };
+        assert_eq!(case.hear(request).word, WORD_DONE);
     }
     case.both.ticks(waits::ACCEPTANCE);
     assert_eq!(case.both.state().core.phase(), PARTICIPATING);

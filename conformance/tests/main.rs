@@ -12,6 +12,7 @@ mod rings;
 mod rules;
 mod ticks;
 mod uncovered;
+mod watch;
 
 fn given_seed() -> Option<u64> {
     let text = std::env::var("FLNET_SEED").ok()?;

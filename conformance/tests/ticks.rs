@@ -6,7 +6,7 @@ use crate::case::{settings, words};
 use flnet_conformance::both::{differences, Both};
 use flnet_conformance::boundary::{Answer, Core, Quiet, Station};
 use flnet_conformance::call::Call;
-use flnet_conformance::choices::due::is_due;
+use flnet_conformance::choices::due::{is_due, watch};
 use flnet_conformance::choices::{Action, Choices};
 use flnet_conformance::frames::Frame;
 use flnet_conformance::model::{waits, Model, MEMORY, OUTPUT};
@@ -121,7 +121,7 @@ fn for_states(seed: u64, calls: u32, mut check: impl FnMut(&mut Random, &Station
 /// Counts around the next end, around the watch, and others.
 fn count_for(random: &mut Random, station: &Station) -> u32 {
     let next = station.quiet().ticks;
-    let watch = waits::watch(station.core.own().watch);
+    let watch = watch(station);
     let some = random.below(5000) as u32;
     random.pick(&[
         0,
@@ -224,7 +224,11 @@ fn alone() -> Station {
     let mut both = Both::new(1, &mut Random::new(1));
     both.start(settings(3, words(4), 2));
     let mut random = Random::new(2);
-    for frame in [Frame::trigger(9), Frame::request(9, Default::default())] {
+    let request = Frame {
+        watch: 2,
+        ..Frame::request(9, Default::default())
+    };
+    for frame in [Frame::trigger(9), request] {
         both.hear(frame.octets(&mut random));
     }
     both.ticks(waits::ACCEPTANCE + 10 * waits::watch(2));
@@ -249,8 +253,8 @@ fn the_longest_sleep() {
     let mut shorter = lonely;
     lonely.ticks(u32::MAX);
     // As far round the watch, and longer than the panel counts.
-    let watch = waits::watch(2);
-    ticks_one_by_one(&mut shorter, u32::MAX % watch + 10_000 * watch);
+    let round = waits::watch(2);
+    ticks_one_by_one(&mut shorter, u32::MAX % round + 10_000 * round);
     assert_eq!(lonely, shorter);
 }
 

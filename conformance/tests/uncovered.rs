@@ -1,8 +1,10 @@
-//! Two rings that the printed lines do not cover, which end as the rules say (docs/PROMISES.md,
-//! "What the printed lines do not cover").
+//! Rings that the printed lines do not cover, which end as the rules say (docs/PROMISES.md, "What
+//! the printed lines do not cover").
 
 use flnet_conformance::boundary::{Areas, Part, Settings};
+use flnet_conformance::frames::Frame;
 use flnet_conformance::names::{PARTICIPATING, WORD_REFUSED};
+use flnet_conformance::random::Random;
 use flnet_conformance::ring::Ring;
 
 const STRANGER: u8 = 9;
@@ -13,6 +15,11 @@ const LONG_TICKS: u64 = 20_000;
 
 /// Stations of these numbers, four words of area 1 each, with watches of 5 milliseconds.
 fn stations(numbers: &[u8]) -> Ring {
+    timed(numbers, |_| 5)
+}
+
+/// The same with a time for each.
+fn timed(numbers: &[u8], time: impl Fn(u8) -> u8) -> Ring {
     let own = |(at, &number): (usize, &u8)| Settings {
         number,
         areas: Areas {
@@ -25,7 +32,7 @@ fn stations(numbers: &[u8]) -> Ring {
                 size: 0,
             },
         },
-        watch: 5,
+        watch: time(number),
     };
     let settings: Vec<Settings> = numbers.iter().enumerate().map(own).collect();
     Ring::new(&settings, 1479)
@@ -108,4 +115,47 @@ fn of_two_that_join_together_the_later_never_lists_the_earlier() {
         assert!(!lists(&ring, 2, 2), "station 3 lists station 2");
     }
     assert!(both, "both participate");
+}
+
+/// A slow drive among quicker stations: it holds for longer than their own times, and nobody takes
+/// the token from it.
+#[test]
+fn a_slow_drive_keeps_its_token() {
+    let drive = 2;
+    let mut ring = timed(&[1, 2, 3], |number| if number == 3 { 30 } else { 20 });
+    ring.seats.iter_mut().for_each(|seat| seat.start());
+    run(&mut ring, UP_TICKS);
+    assert!(ring.are_complete());
+    while ring.views() != [3, 3, 3] {
+        step(&mut ring, |_, _| None);
+    }
+    for _ in 0..250 {
+        ring.tick();
+        assert_eq!(ring.views(), [3, 3, 3]);
+    }
+    assert!(ring.ask(drive).is_some());
+    assert_eq!(ring.views(), [1, 1, 1]);
+}
+
+/// A request with another time, heard by one station alone: it gives the holder up while the holder
+/// still has its time.
+#[test]
+fn a_request_with_another_time_makes_two_holders() {
+    let mut ring = stations(&[1, 2]);
+    ring.seats.iter_mut().for_each(|seat| seat.start());
+    run(&mut ring, UP_TICKS);
+    assert!(ring.are_complete());
+    while ring.views() != [2, 2] {
+        step(&mut ring, |_, _| None);
+    }
+    let other = Frame {
+        watch: 1,
+        ..Frame::request(2, ring.seats[1].own.areas.into())
+    };
+    let octets = other.octets(&mut Random::new(1));
+    ring.seats[0].hear(&octets);
+    for _ in 0..10 {
+        ring.tick();
+    }
+    assert_eq!(ring.views(), [1, 2]);
 }

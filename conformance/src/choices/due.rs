@@ -1,6 +1,6 @@
 //! What time brings to a station, as far as the calls are led by it.
 
-use crate::boundary::Core;
+use crate::boundary::{Core, Station};
 use crate::model::waits;
 use crate::names::*;
 
@@ -16,8 +16,19 @@ pub fn is_due(core: &Core) -> bool {
     }
 }
 
+/// Ticks that a participant's watch runs, as list and view stand.
+pub fn watch(state: &Station) -> u32 {
+    let own = state.core.own();
+    let entry = state.list.entry(state.core.view());
+    match entry.listed && state.core.view() != own.number {
+        true => waits::watch(entry.watch.max(1)),
+        false => waits::watch(own.watch),
+    }
+}
+
 /// Ticks until the next thing that time brings in this state.
-pub fn until_next(core: &Core) -> u32 {
+pub fn until_next(state: &Station) -> u32 {
+    let core = &state.core;
     let request = waits::until_request(core.own().number);
     let end = match core.phase() {
         LISTENING => waits::until_trigger(core.own().number),
@@ -27,7 +38,7 @@ pub fn until_next(core: &Core) -> u32 {
             core.elapsed + request - core.waited
         }
         JOINING => waits::TOKEN_DETECTION,
-        PARTICIPATING => waits::watch(core.own().watch),
+        PARTICIPATING => watch(state),
         _ => 1,
     };
     end.saturating_sub(core.elapsed).max(1)

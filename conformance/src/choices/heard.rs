@@ -15,7 +15,11 @@ impl Choices {
             true => self.cyclic(state, state.core.source()),
             false => self.any_frame(state),
         };
-        frame.watch = self.random.octet();
+        frame.watch = match self.random.below(10) {
+            0 => 0,
+            1 => self.random.octet(),
+            _ => self.time(),
+        };
         if self.random.chance(30) {
             frame.stretch(&mut self.random);
         }

@@ -10,7 +10,7 @@ use crate::model::frame::MARK;
 use crate::model::{waits, MEMORY, OUTPUT};
 use crate::names::*;
 use crate::random::Random;
-use due::{is_due, until_next};
+use due::{is_due, until_next, watch};
 
 /// What is done next.
 #[derive(Clone, Copy, Debug)]
@@ -45,7 +45,7 @@ const ACTIONS: [Action; 10] = [
 const WEIGHTS: [[usize; 10]; 5] = [
     [300, 1500, 4000, 1200, 600, 1200, 300, 50, 200, 0],
     [200, 2500, 4000, 2500, 900, 400, 250, 50, 200, 0],
-    [100, 4000, 3500, 1500, 1000, 300, 200, 50, 150, 0],
+    [100, 4000, 4000, 1500, 1000, 300, 200, 50, 150, 0],
     [100, 5000, 1000, 2000, 700, 300, 80, 50, 100, 0],
     [200, 5000, 2500, 2500, 1500, 100, 20, 300, 400, 1],
 ];
@@ -112,6 +112,12 @@ impl Choices {
         }
     }
 
+    /// A watch time, mostly a short one.
+    fn time(&mut self) -> u8 {
+        self.random
+            .pick(&[1, 1, 1, 1, 2, 2, 3, 3, 5, 5, 10, 10, 20, 255])
+    }
+
     /// Settings of which some are refused.
     pub fn settings(&mut self) -> Settings {
         self.change_manner();
@@ -119,9 +125,7 @@ impl Choices {
         let mut settings = Settings {
             number,
             areas: self.areas(number).into(),
-            watch: self
-                .random
-                .pick(&[1, 1, 1, 1, 2, 2, 3, 3, 5, 5, 10, 10, 20, 255]),
+            watch: self.time(),
         };
         match self.random.below(20) {
             0 => settings.number = self.random.pick(&[0, 255]),
@@ -138,7 +142,7 @@ impl Choices {
     /// How many ticks come in a row: a few, just up to what they bring, or as many watches as
     /// strike everybody.
     pub fn ticks(&mut self, state: &Station) -> u32 {
-        let until = until_next(&state.core);
+        let until = until_next(state);
         let rounds = 3 * (state.list.numbers().count() as u32 + 1);
         match self.random.below(20) {
             0..=1 if until > 1 => until - 1,
@@ -150,7 +154,7 @@ impl Choices {
             }
             10 if state.core.phase() == STARTUP => waits::ACCEPTANCE - state.core.elapsed,
             10 if state.core.phase() == PARTICIPATING => {
-                until + rounds.min(30) * waits::watch(state.core.own().watch).min(200)
+                until + rounds.min(30) * watch(state).min(200)
             }
             _ => self.random.between(1, 5) as u32,
         }

@@ -2,6 +2,7 @@
 
 use crate::boundary::{Answer, Station};
 use crate::call::Call;
+use crate::choices::due::watch;
 use crate::model::frame::at;
 use crate::model::waits;
 use crate::names::*;
@@ -75,6 +76,21 @@ impl Step<'_> {
         self.stays() && self.ticks() && self.after.core.elapsed == 0
     }
 
+    /// The watch ends with a listed station in view whose time and ours meet a test.
+    fn ends_by(&self, test: fn(u8, u8) -> bool) -> bool {
+        let entry = self.before.list.entry(self.before.core.view());
+        let own = self.before.core.own().watch;
+        self.ends_watch() && !self.held() && entry.listed && test(entry.watch, own)
+    }
+
+    /// A request of the station in view gives a running watch another length.
+    fn changes_watch(&self, test: fn(u32, u32) -> bool) -> bool {
+        self.stays()
+            && self.heard_done().is_some()
+            && self.before.core.elapsed > 0
+            && test(watch(self.before), watch(self.after))
+    }
+
     /// A source that brought areas and is listed without.
     fn crowded(&self) -> bool {
         self.heard().is_some_and(|(source, octets)| {
@@ -98,7 +114,7 @@ impl Step<'_> {
 
 pub type Noted = (&'static str, fn(&Step) -> bool);
 
-pub const NOTED: [Noted; 36] = [
+pub const NOTED: [Noted; 42] = [
     ("trigger sent", |s| s.goes(LISTENING, STARTUP) && s.asks()),
     ("trigger heard in listening", |s| {
         s.goes(LISTENING, STARTUP) && !s.asks()
@@ -178,6 +194,24 @@ pub const NOTED: [Noted; 36] = [
     }),
     ("watch ends, alone", |s| {
         s.ends_watch() && s.held() && s.holds()
+    }),
+    ("watch ends by a longer time than ours", |s| {
+        s.ends_by(|listed, own| listed > own)
+    }),
+    ("watch ends by a shorter time than ours", |s| {
+        s.ends_by(|listed, own| 0 < listed && listed < own)
+    }),
+    ("watch ends by a listed time of 0", |s| {
+        s.ends_by(|listed, own| listed == 0 && own > 1)
+    }),
+    ("running watch prolonged", |s| {
+        s.changes_watch(|before, after| before < after)
+    }),
+    ("running watch shortened", |s| {
+        s.changes_watch(|before, after| after < before)
+    }),
+    ("watch ends past its time", |s| {
+        s.ends_watch() && s.before.core.elapsed >= watch(s.before)
     }),
     ("divided turn written", |s| {
         s.written() && s.before.core.blocks() > 0

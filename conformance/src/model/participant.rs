@@ -3,7 +3,7 @@
 use super::data::Gathering;
 use super::frame::{Code, Header};
 use super::panel::Panel;
-use super::{Answer, List, Outcome, Refusal, Settings};
+use super::{waits, Answer, List, Outcome, Refusal, Settings};
 
 /// Misses in a row that strike a station.
 const MISSES: u8 = 3;
@@ -81,6 +81,14 @@ impl Participant {
             _ if view != before => Token::RivalWon,
             _ => Token::RivalPassedOver,
         }
+    }
+
+    /// Ticks that the watch runs, as list and view stand: for the listed time of the station in
+    /// view, our own time when we hold or it is not listed. A listed time of 0 counts as 1 ms.
+    pub fn watch(&self, list: &List, own: &Settings) -> u32 {
+        let other = Some(self.view).filter(|&view| view != own.number);
+        let entry = other.and_then(|view| list.get(view));
+        waits::watch(entry.map_or(own.watch, |entry| entry.watch.max(1)))
     }
 
     /// The watch has ended: the station in view has missed its turn, or we give up the token.

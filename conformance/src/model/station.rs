@@ -117,7 +117,7 @@ impl Model {
             Phase::Participating(participant) => {
                 participant.panel.tick();
                 participant.watched += 1;
-                if participant.watched == waits::watch(self.own.watch) {
+                if participant.watched >= participant.watch(&self.list, &self.own) {
                     participant.end_watch(&mut self.list, number);
                 }
             }

@@ -16,7 +16,7 @@ pub enum Requests {
     None,
     /// The areas and the watch time that the station has.
     True,
-    /// Any areas and watch time.
+    /// Any areas; another watch time would end what is covered.
     Any,
 }
 
@@ -58,7 +58,7 @@ fn request(sender: &Settings, requests: Requests, random: &mut Random) -> Frame 
     };
     let areas = Areas::new(part(512), part(8192));
     Frame {
-        watch: random.octet(),
+        watch: sender.watch,
         ..Frame::request(sender.number, areas)
     }
 }

@@ -9,10 +9,14 @@ ghost use Rattle.boundary_places.specs.Places.{coreIn};
 ghost use Rattle.boundary_quiet.specs.Numbers.{quietNumbers};
 ghost use Rattle.ticking_quiet.specs.Quiet.{quietOf};
 
-pub fn quiet_ticks(core: &[u32; boundary_places::NUMBERS], listed: &[bool; 256]) -> Quiet
-    ensures { λ r. ⌜ ((areas watch misses : List ℕ) → r ≡ quietNumbers (quietOf (stationIn (coreIn (now (core .entry))) (now (listed .entry)) areas watch misses))) ⌝ }
+pub fn quiet_ticks(
+    core: &[u32; boundary_places::NUMBERS],
+    listed: &[bool; 256],
+    watch: &[u8; 256],
+) -> Quiet
+    ensures { λ r. ⌜ ((areas misses : List ℕ) → r ≡ quietNumbers (quietOf (stationIn (coreIn (now (core .entry))) (now (listed .entry)) areas (now (watch .entry)) misses))) ⌝ }
 {
-    boundary_quiet::quiet_ticks(core_in(core), listed)
+    boundary_quiet::quiet_ticks(core_in(core), listed, watch)
 }
 
 pub fn show(core: &[u32; boundary_places::NUMBERS]) -> Shown

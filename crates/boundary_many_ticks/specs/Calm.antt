@@ -1,12 +1,14 @@
 -- Ticks that only count, on a core: they do not touch the list. Assumes nothing.
-use Rattle.laws.specs.Usual.{_≡_, sym, _∙_, Bool, true, not, false≢true, ℕ, suc, _<_, arith, eqb}
+use Rattle.laws.specs.Usual.{_≡_, sym, ap, _∙_, Bool, true, not, false≢true, ℕ, suc, _<_, arith, eqb}
 use Prim.Native.Nat.{zero}
 use native.Mathlib.Nat.{le-of-eq}
 use borrow.Author.Tests.{eqb-true, eq-eqb, not-true}
 use Rattle.members.specs.Members.{noMembers}
 use Rattle.members.specs.declared.Members.{Members}
+use Rattle.station.specs.Rules.Ticking.{watchTime}
+use Rattle.units.specs.declared.Milliseconds.{Milliseconds}
 use Rattle.ticking_quiet.specs.Many.{afterTicks}
-use Rattle.ticking_calm.specs.Calm.{calmOf, calmAfter}
+use Rattle.ticking_calm.specs.Calm.{calmIn, calmOf, calmAfter}
 use Rattle.ticking_calm.specs.CalmTicks.{calm-ticks, calm-few}
 use Rattle.ticking_calm.specs.declared.Counts.{Counts}
 use Rattle.boundary_core.specs.Crossing.{phaseOf, stationOf, coreOf}
@@ -30,22 +32,27 @@ recounted core counts = record {
   panel = counts .panel;
 }
 
--- all of the next ticks only count, whatever the list is
-abbrev pub isCalm : Core → ℕ → Bool
-isCalm core count = eqb (calmOf (stationOf core noMembers) count) count
+-- all of the next ticks only count, where the watch runs for a time
+abbrev pub isCalm : Core → Milliseconds → ℕ → Bool
+isCalm core time count =
+    eqb (calmIn (phaseOf (core .phase)) (core .own .number) time (core .rounds) (core .elapsed) (core .waited) count) count
 
 -- the core after them
 abbrev pub calmCore : ℕ → Core → Core
 calmCore count core = coreOf (calmAfter count (stationOf core noMembers))
 
-pub calm-station : (core : Core) (members : Members) (count : ℕ) → isCalm core count ≡ true
-    → afterTicks count (stationOf core members) ≡ calmAfter count (stationOf core members)
-calm-station core members count calm =
-    calm-ticks (stationOf core members) count count (le-of-eq (sym (eqb-true (calmOf (stationOf core noMembers) count) count calm)))
+pub calm-station : (core : Core) (members : Members) (count : ℕ) {time : Milliseconds} → time ≡ watchTime (stationOf core members)
+    → isCalm core time count ≡ true → afterTicks count (stationOf core members) ≡ calmAfter count (stationOf core members)
+calm-station core members count timed calm =
+    let all = ap (λ (t : Milliseconds). isCalm core t count) (sym timed) ∙ calm in
+    calm-ticks (stationOf core members) count count (le-of-eq (sym (eqb-true (calmOf (stationOf core members) count) count all)))
 
 -- a tick that does more is a tick
-pub some-left : (core : Core) (count : ℕ) {calm : Bool} → calm ≡ isCalm core count → not calm ≡ true → 0 < count
-some-left core zero {calm} known loud =
-    let few = calm-few (phaseOf (core .phase)) (core .own) (core .rounds) (core .elapsed) (core .waited) 0 in
-    absurd (false≢true (sym (not-true calm loud) ∙ known ∙ eq-eqb (calmOf (stationOf core noMembers) 0) 0 (omega arith)))
-some-left core (suc count) known loud = omega arith
+pub some-left : (core : Core) (time : Milliseconds) (count : ℕ) {calm : Bool} → calm ≡ isCalm core time count → not calm ≡ true → 0 < count
+some-left core time zero {calm} known loud =
+    let few = calm-few (phaseOf (core .phase)) (core .own .number) time (core .rounds) (core .elapsed) (core .waited) 0 in
+    absurd
+    (false≢true
+    (sym (not-true calm loud) ∙ known
+    ∙ eq-eqb (calmIn (phaseOf (core .phase)) (core .own .number) time (core .rounds) (core .elapsed) (core .waited) 0) 0 (omega arith)))
+some-left core time (suc count) known loud = omega arith

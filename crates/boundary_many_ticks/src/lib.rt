@@ -4,7 +4,9 @@ use boundary_core::Outcome;
 use boundary_core::phase_number;
 use boundary_core::phase_of;
 use boundary_core::ticked_answer;
+use boundary_watch::watch_time;
 use ticking_calm::Counts;
+use units::Milliseconds;
 ghost use Rattle.laws.specs.Usual.{_≡_, List, ℕ, _-_, _≤_};
 ghost use Rattle.boundary_answers.specs.Numbers.{tickedAnswer};
 ghost use Rattle.boundary_core.specs.Crossing.{coreOf, stationIn};
@@ -46,16 +48,16 @@ fn with_counts(core: Core, counts: Counts) -> Core
     }
 }
 
-// All of the next `count` ticks only count.
-fn is_calm(core: Core, count: u32) -> bool
-    ensures { λ r. ⌜ r ≡ isCalm core count ⌝ }
+// All of the next `count` ticks only count, where the watch runs for a time.
+fn is_calm(core: Core, time: Milliseconds, count: u32) -> bool
+    ensures { λ r. ⌜ r ≡ isCalm core time count ⌝ }
 {
-    let own = core.own;
     let elapsed = core.elapsed;
     let waited = core.waited;
     let calm = ticking_calm::calm_in(
         phase_of(core.phase),
-        own,
+        core.own.number,
+        time,
         core.rounds,
         elapsed,
         waited,
@@ -69,8 +71,8 @@ fn count_on(core: Core, count: u32) -> Core
     ensures { λ r. ⌜ r ≡ calmCore count core ⌝ }
 {
     let phase = phase_of(core.phase);
-    let own = core.own;
-    let counts = ticking_calm::counts_after(phase, own, core.rounds, count, counts_in(core));
+    let number = core.own.number;
+    let counts = ticking_calm::counts_after(phase, number, core.rounds, count, counts_in(core));
     let after = with_counts(core, counts);
     Core {
         phase: phase_number(phase),
@@ -91,14 +93,17 @@ fn is_alone(core: Core, listed: &[bool; 256]) -> bool
 }
 
 // Some of the next `count` ticks jumped over, which leaves the list as it is.
-fn jump(core: Core, listed: &[bool; 256], count: u32) -> Left
+fn jump(core: Core, listed: &[bool; 256], watch: &[u8; 256], count: u32) -> Left
     ensures { λ r. ⌜ r .ticks ≤ count ⌝ }
-    ensures { λ r. ⌜ ((areas watch misses : List ℕ) → stationIn (r .core) (now (listed .entry)) areas watch misses ≡ afterTicks (count - r .ticks) (stationIn core (now (listed .entry)) areas watch misses)) ⌝ }
+    ensures { λ r. ⌜ ((areas misses : List ℕ) → stationIn (r .core) (now (listed .entry)) areas (now (watch .entry)) misses ≡ afterTicks (count - r .ticks) (stationIn core (now (listed .entry)) areas (now (watch .entry)) misses)) ⌝ }
 {
-    let own = core.own;
+    let number = core.own.number;
+    let rounds = core.rounds;
+    let phase = phase_of(core.phase);
     let alone = is_alone(core, listed);
+    let time = watch_time(core, listed, watch);
     let counts = counts_in(core);
-    let jumped = ticking_jump::jump(alone, phase_of(core.phase), own, core.rounds, counts, count);
+    let jumped = ticking_jump::jump(alone, phase, number, time, rounds, counts, count);
     let after = jumped.counts;
     Left {
         core: with_counts(core, after),
@@ -121,8 +126,8 @@ pub fn ticks(
 {
     let mut after = core;
     let mut left = count;
-    while !is_calm(after, left) {
-        let jumped = jump(after, listed, left - 1);
+    while !is_calm(after, watch_time(after, listed, watch), left) {
+        let jumped = jump(after, listed, watch, left - 1);
         let before = jumped.core;
         let outcome = boundary_counting::tick(before, listed, areas, watch, misses);
         after = outcome.core;

@@ -1,6 +1,6 @@
 -- A participant's calls on its core, where the list is left as it is but for one station's misses; and that they are the calls of its station.
 -- A core's phase is a number, and 4 is that of participating, by which the proofs here go.
-use Rattle.laws.specs.Usual.{_≡_, ap, _∙_, Bool, true, false, cond, not, _&&_, _||_, List, ℕ, _+_, arith, length, drop, eqb, leb}
+use Rattle.laws.specs.Usual.{_≡_, Bool, true, false, cond, not, _&&_, _||_, List, ℕ, _+_, arith, length, drop, eqb}
 use borrow.Author.Tests.{eqb-true, not-true}
 use Rattle.station.specs.Rules.Asking.{placedIn, lastIn, nextFields, turnFor}
 use Rattle.block.specs.Blocks.{startOf}
@@ -8,7 +8,7 @@ use Rattle.frame.specs.Codes.{isToken, isCyclic}
 use Rattle.hearing_data.specs.Body.{body-read}
 use Rattle.laws.specs.Tests.{first, second}
 use Rattle.members.specs.Members.{isListed, nextAfter}
-use Rattle.panel.specs.Panel.{ticked, afterTaking}
+use Rattle.panel.specs.Panel.{afterTaking}
 use Rattle.frame_reading.specs.Reading.{andThen, readOf, readHeaderOf, readBodyOf, dataOf}
 use Rattle.frame_reading.specs.declared.Read.the-variants as reads
 use Rattle.frame_round_trip.specs.Accepted.{bodied}
@@ -17,48 +17,14 @@ use Rattle.station.specs.Rules.Asking as asks
 use Rattle.station.specs.Rules.Data.{gathered}
 use Rattle.station.specs.Rules.Hearing.{Hearing, hearOf, headerHeard, participantHeard, lentRight}
 use Rattle.station.specs.Rules.State.{noTicks}
-use Rattle.station.specs.Rules.Ticking.{tickOf, later}
 use Rattle.station.specs.Rules.Token.{takes}
-use Rattle.station.specs.Rules.Waits.{watchTicks, longestWatch}
 use Rattle.station.specs.declared.Asked.the-variants.{Octets}
 use Rattle.station.specs.Types.{Fields, Read, Members}
 use Rattle.station.specs.declared.Phase.the-variants.{Participating}
 use Rattle.station.specs.declared.Gathering.{Gathering}
-use Rattle.station.specs.declared.Ticked.the-variants.{Done}
 use Rattle.frame_writing.specs.Writing.{wholeLength, outputOf}
-use Rattle.boundary_core.specs.Crossing.{stationOf, coreOf, isIn}
+use Rattle.boundary_core.specs.Crossing.{stationOf, isIn}
 use Rattle.boundary_core.specs.declared.Core.{Core}
-
--- a participant whose next tick does not end its watch
-abbrev pub isQuiet : Core → Bool
-isQuiet core = isIn Participating core && not (leb (watchTicks (core .own .watch)) (core .elapsed .0 + 1))
-
--- its tick
-abbrev pub quietAfter : Core → Core
-quietAfter core = record {
-  phase = core .phase;
-  own = core .own;
-  elapsed = later longestWatch (core .elapsed);
-  waited = core .waited;
-  rounds = core .rounds;
-  sent = core .sent;
-  view = core .view;
-  block = core .block;
-  gathering = core .gathering;
-  panel = ticked (core .panel);
-}
-
-pub quiet-tick : (core : Core) (members : Members) → isQuiet core ≡ true → tickOf (stationOf core members) ≡ record { station = stationOf (quietAfter core) members; answer = Done }
-quiet-tick core members quiet =
-    let four : core .phase ≡ 4 = eqb-true (core .phase) 4 (first (eqb (core .phase) 4) (not (leb (watchTicks (core .own .watch)) (core .elapsed .0 + 1))) quiet) in
-    let runs : leb (watchTicks (core .own .watch)) (core .elapsed .0 + 1) ≡ false =
-    not-true (leb (watchTicks (core .own .watch)) (core .elapsed .0 + 1)) (second (eqb (core .phase) 4) (not (leb (watchTicks (core .own .watch)) (core .elapsed .0 + 1))) quiet) in
-    rw (four, runs)
-
-pub quiet-core : (core : Core) (members : Members) → isQuiet core ≡ true → coreOf (tickOf (stationOf core members) .station) ≡ quietAfter core
-quiet-core core members quiet =
-    let four : core .phase ≡ 4 = eqb-true (core .phase) 4 (first (eqb (core .phase) 4) (not (leb (watchTicks (core .own .watch)) (core .elapsed .0 + 1))) quiet) in
-    ap (λ t. coreOf (t .station)) (quiet-tick core members quiet) ∙ rw four
 
 -- a participant whose watch restarts, with another view and gathering
 abbrev pub restartedCore : Core → ℕ → Gathering → Core

@@ -1,32 +1,10 @@
-// A participant's tick, the test of a frame heard, its block sent and its watch restarted, on its core alone.
+// The test of a frame that a participant hears, its block sent and its watch restarted, on its core alone.
 use boundary_core::Core;
 use frame::Fields;
 use station::Gathering;
 use units::Ticks;
 ghost use Rattle.laws.specs.Usual.{_≡_, true};
-ghost use Rattle.boundary_participant.specs.Quick.{isQuiet, quietAfter, isAccepted, holdsBlock, sentCore, restartedCore};
-
-pub fn is_quiet(core: Core) -> bool
-    ensures { λ r. ⌜ r ≡ isQuiet core ⌝ }
-{
-    let watch = core.own.watch;
-    let elapsed = core.elapsed;
-    (core.phase == boundary_core::PARTICIPATING) & !waits::watch_ends(watch, elapsed)
-}
-
-pub fn quiet(core: Core) -> Core
-    ensures { λ r. ⌜ r ≡ quietAfter core ⌝ }
-{
-    let before = core.elapsed;
-    let counter = core.panel;
-    let elapsed = waits::later(waits::longest_watch(), before);
-    let panel = panel::tick(counter);
-    Core {
-        elapsed,
-        panel,
-        ..core
-    }
-}
+ghost use Rattle.boundary_participant.specs.Quick.{isAccepted, holdsBlock, sentCore, restartedCore};
 
 // Whether a participant accepts a cyclic frame that was read, by whether its source and its destination are listed.
 pub fn is_accepted(core: Core, source: bool, destination: bool, frame: Fields) -> bool

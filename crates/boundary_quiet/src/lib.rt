@@ -1,4 +1,4 @@
-// How many ticks are quiet, by the core and the flags of the list.
+// How many ticks are quiet, by the core and two of the list's arrays.
 use boundary_core::Core;
 use boundary_core::phase_of;
 use station::Phase;
@@ -27,17 +27,17 @@ fn unless(stays: bool, ticks: u32) -> Quiet
     Quiet { ends: true, ticks }
 }
 
-// Of the list only the flags matter.
-pub fn quiet_ticks(core: Core, listed: &[bool; 256]) -> Quiet
-    ensures { λ r. ⌜ ((areas watch misses : List ℕ) → r ≡ quietNumbers (quietOf (stationIn core (now (listed .entry)) areas watch misses))) ⌝ }
+// Of the list only the flags and the watch times matter.
+pub fn quiet_ticks(core: Core, listed: &[bool; 256], watch: &[u8; 256]) -> Quiet
+    ensures { λ r. ⌜ ((areas misses : List ℕ) → r ≡ quietNumbers (quietOf (stationIn core (now (listed .entry)) areas (now (watch .entry)) misses))) ⌝ }
 {
     let phase = phase_of(core.phase);
-    let own = core.own;
     let elapsed = core.elapsed;
     let waited = core.waited;
-    let number = own.number;
+    let number = core.own.number;
     let view = core.view;
-    let left = ticking_calm::left_in(phase, own, core.sent, core.rounds, elapsed, waited);
+    let time = boundary_watch::watch_time(core, listed, watch);
+    let left = ticking_calm::left_in(phase, number, time, core.sent, core.rounds, elapsed, waited);
     match phase {
         Phase::Off => unless(true, left),
         Phase::Listening => unless(waits::listening_time(number).0 <= elapsed.0, left),

@@ -3,12 +3,12 @@ use Rattle.laws.specs.Usual.{_≡_, refl, sym, ap, _∙_, Bool, true, false, co
 use borrow.Author.Tests.{not-false}
 use Rattle.boundary_core.specs.Crossing.{stationOf, coreOf}
 use Rattle.boundary_core.specs.declared.Core.{Core}
-use Rattle.boundary_participant.specs.Quick.{isQuiet, restartedCore}
+use Rattle.boundary_participant.specs.Quick.{restartedCore}
+use Rattle.boundary_watch.specs.Watch.{isQuiet}
 use Rattle.members.specs.Members.{nobody, entryOf, isListed, withEntry, missesSet, struck, strikes, missed, nextAfter}
 use Rattle.panel.specs.Panel.{ticked}
 use Rattle.station.specs.Rules.Data.{without}
-use Rattle.station.specs.Rules.Ticking.{tickOf, watchEnded}
-use Rattle.station.specs.Rules.Waits.{watchTicks}
+use Rattle.station.specs.Rules.Ticking.{tickOf, watchTime, watchEnds, watchEnded}
 use Rattle.station.specs.Types.{Members, Entry}
 use Rattle.station.specs.declared.Gathering.{Gathering}
 use Rattle.station.specs.declared.Ticked.the-variants.{Done}
@@ -55,11 +55,10 @@ abbrev pub silencedCore : Core → ℕ → Entry → Core
 silencedCore core next entry = restartedCore (tickedCore core) next (leftBy entry (core .view) (core .gathering))
 
 module _ (core : Core) (members : Members) where
-  pub silence-tick : core .phase ≡ 4 → isQuiet core ≡ false
+  pub silence-tick : core .phase ≡ 4 → isQuiet core (watchTime (stationOf core members)) ≡ false
       → tickOf (stationOf core members) ≡ record { station = watchEnded (stationOf core members); answer = Done }
   silence-tick four loud =
-      let ends : leb (watchTicks (core .own .watch)) (core .elapsed .0 + 1) ≡ true =
-      not-false (leb (watchTicks (core .own .watch)) (core .elapsed .0 + 1)) (rw four at loud) in
+      let ends : watchEnds (stationOf core members) ≡ true = not-false (watchEnds (stationOf core members)) (rw four at loud) in
       rw (four, ends)
 
   pub silence-core : coreOf (watchEnded (stationOf core members))

@@ -8,10 +8,10 @@ ghost use Rattle.laws.specs.Usual.{_≡_, false};
 ghost use Rattle.boundary_answers.specs.Numbers.{tickedAnswer};
 ghost use Rattle.boundary_core.specs.Crossing.{coreOf, stationIn};
 ghost use Rattle.boundary_lists.specs.Lists.{membersIn};
-ghost use Rattle.boundary_participant.specs.Quick.{isQuiet};
+ghost use Rattle.boundary_watch.specs.Watch.{isQuiet};
 ghost use Rattle.boundary_silence.specs.Silence.{missedEntry, leftBy, silencedCore};
 ghost use Rattle.members.specs.Members.{missed};
-ghost use Rattle.station.specs.Rules.Ticking.{tickOf};
+ghost use Rattle.station.specs.Rules.Ticking.{tickOf, watchTime};
 
 // An entry after a miss: the third in a row strikes it.
 fn missed_entry(entry: Entry) -> Entry
@@ -76,7 +76,7 @@ pub fn tick(
     misses: &mut [u8; 256],
 ) -> Outcome
     requires { ⌜ core .phase ≡ 4 ⌝ }
-    requires { ⌜ isQuiet core ≡ false ⌝ }
+    requires { ⌜ isQuiet core (watchTime (stationIn core (now listed) (now areas) (now watch) (now misses))) ≡ false ⌝ }
     ensures { λ r. ⌜ r .core ≡ coreOf (tickOf (stationIn core (now (listed .entry)) (now (areas .entry)) (now (watch .entry)) (now (misses .entry))) .station) ⌝ }
     ensures { λ r. ⌜ r .answer ≡ tickedAnswer (tickOf (stationIn core (now (listed .entry)) (now (areas .entry)) (now (watch .entry)) (now (misses .entry))) .answer) ⌝ }
     ensures { λ _. ⌜ membersIn (now (listed .exit)) (now (areas .exit)) (now (watch .exit)) (now (misses .exit)) ≡ tickOf (stationIn core (now (listed .entry)) (now (areas .entry)) (now (watch .entry)) (now (misses .entry))) .station .members ⌝ }

@@ -25,8 +25,9 @@ pub fn tick(
     ensures { λ _. ⌜ membersIn (now (listed .exit)) (now (areas .exit)) (now (watch .exit)) (now (misses .exit)) ≡ tickOf (stationIn (coreIn (now (core .entry))) (now (listed .entry)) (now (areas .entry)) (now (watch .entry)) (now (misses .entry))) .station .members ⌝ }
 {
     let state = core_in(core);
-    if boundary_counting::counts(state) {
-        keep(core, boundary_counting::count(state));
+    let time = boundary_watch::watch_time(state, listed, watch);
+    if boundary_counting::counts(state, time) {
+        keep(core, boundary_counting::count(state, time));
         return boundary_core::done();
     }
     keep_outcome(

@@ -106,12 +106,16 @@ pub extern "C" fn flnet_ticks(
     boundary_ticks::ticks(core, listed, areas, watch, misses, count)
 }
 
-// How many ticks can come, with no call between, before one brings news. Of the list only the flags matter to it.
+// How many ticks can come, with no call between, before one brings news. Of the list only the flags and the watch times matter to it.
 #[no_mangle]
-pub extern "C" fn flnet_quiet(core: &[u32; boundary_places::NUMBERS], listed: &[bool; 256]) -> Quiet
-    ensures { λ r. ⌜ ((areas watch misses : List ℕ) → r ≡ quietNumbers (quietOf (stationIn (coreIn (now (core .entry))) (now (listed .entry)) areas watch misses))) ⌝ }
+pub extern "C" fn flnet_quiet(
+    core: &[u32; boundary_places::NUMBERS],
+    listed: &[bool; 256],
+    watch: &[u8; 256],
+) -> Quiet
+    ensures { λ r. ⌜ ((areas misses : List ℕ) → r ≡ quietNumbers (quietOf (stationIn (coreIn (now (core .entry))) (now (listed .entry)) areas (now (watch .entry)) misses))) ⌝ }
 {
-    boundary_inspecting::quiet_ticks(core, listed)
+    boundary_inspecting::quiet_ticks(core, listed, watch)
 }
 
 #[no_mangle]

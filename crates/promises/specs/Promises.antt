@@ -1,7 +1,7 @@
 -- What is promised: each printed statement written out, in the order of docs/PROMISES.md, and proved by the theorem that is named beside it.
 -- The definitions that the statements are made of are the rules themselves, which the contracts of the calls cite. Words in quotes are the
 -- request's and paper 01's.
-use Rattle.laws.specs.Usual.{_≡_, refl, sym, ap, subst, _∙_, true, false, cond, not, _&&_, _||_, false≢true, List, [], _∷_, _++_, ℕ, _+_, _-_, _*_, _<_, _≤_, length, getD, take, replicate, eqb}
+use Rattle.laws.specs.Usual.{_≡_, refl, sym, ap, subst, _∙_, true, false, cond, not, _&&_, _||_, false≢true, List, [], _∷_, _++_, ℕ, suc, _+_, _-_, _*_, _<_, _≤_, length, getD, take, replicate, eqb, leb}
 use mathlib.Core.Logic.{_⊎_, inl, inr}
 use Rattle.area.specs.Areas.{inArea, inRange}
 use Rattle.area.specs.Overlap.{partsOverlap, areasOverlap}
@@ -30,6 +30,8 @@ use Rattle.frame.specs.declared.Refusal.the-variants.{Taken}
 use Rattle.members.specs.Members.{entryOf, isListed, ringOf}
 use Rattle.misses.specs.MissHistory.{missesSaid, ends, isStop}
 use Rattle.misses.specs.MissesTold.{misses-told, struck-third}
+use Rattle.misses.specs.WatchHistory.{milliseconds, watchRun}
+use Rattle.misses.specs.WatchTold.{watch-told}
 use Rattle.panel.specs.Panel.{textOf, shown}
 use Rattle.panel.specs.Texts.{shown-text}
 use Rattle.panel.specs.declared.Figure.the-variants.{Nothing}
@@ -76,7 +78,8 @@ use Rattle.station.specs.RefusedLeft.{Spared, same, turnedOff, refused-left}
 use Rattle.station.specs.Rules.Showing.{figureShown}
 use Rattle.station.specs.Rules.Starting.{requestFallen}
 use Rattle.station.specs.Rules.State.{never, isOff, isParticipating, stopped}
-use Rattle.station.specs.Rules.Ticking.{tickOf}
+use Rattle.station.specs.Rules.Ticking.{tickOf, watchEnds}
+use Rattle.station.specs.Rules.Waits.{countsAs}
 use Rattle.station.specs.Memory.TurnWhole.{Lending, turn-whole}
 use Rattle.station.specs.Memory.TurnWritten.{Turned, turn-written}
 use Rattle.station.specs.declared.Asked.the-variants.{Octets}
@@ -120,8 +123,9 @@ pub disturbed-ring :
     -- "all participating and listing exactly one another",
     → ((n : ℕ) → n ∈ numbers → stations n .phase ≡ Participating)
     → ((n : ℕ) → n ∈ numbers → ringOf n (stations n .members) ≡ numbers)
-    -- "with equal watch times and every view among their numbers",
+    -- "with equal watch times and every view among their numbers"; since paper 02, E1, "one watch time, own and listed", 0 as 1 ms,
     → ((n m : ℕ) → n ∈ numbers → m ∈ numbers → stations n .own .watch .0 ≡ stations m .own .watch .0)
+    → ((n m : ℕ) → n ∈ numbers → m ∈ numbers → ¬ (m ≡ n) → countsAs (entryOf (stations n .members) m .watch) .0 ≡ stations n .own .watch .0)
     → ((n : ℕ) → n ∈ numbers → stations n .view ∈ numbers)
     -- "all of which have just sent or heard one token frame", brought there "by whatever calls since off".
     → (octets : List ℕ) (token : Fields) → readOf octets ≡ Frame token → isToken (token .code) ≡ true
@@ -149,7 +153,7 @@ pub disturbed-ring :
     → (x : ℕ) → x ∈ numbers → given x (afterAll afterEvent stations (before ++ start)) window ≡ 1)
     -- Each event does to the views what it counts as: a pass, a silence that ends all watches, or nothing.
     × EachFinds afterEvent (Does numbers) stations (before ++ later)
-disturbed-ring numbers some ascending stations own participates list watch view octets token is-read is-token last events come =
+disturbed-ring numbers some ascending stations own participates list watch listed view octets token is-read is-token last events come =
     let found = demand-three-whole ring events come in (
       found .0,
       found .1,
@@ -179,6 +183,7 @@ disturbed-ring numbers some ascending stations own participates list watch view 
       participates = participates;
       list = list;
       watch = watch;
+      listed = listed;
       view = view;
     }
 
@@ -280,6 +285,13 @@ pub struck : (calls : List Call) (x : ℕ) → isListed (stateAfter never calls 
     ≡ not (isStop call || (ends x (stateAfter never calls) call && eqb (missesSaid x (stepOf (stateAfter never calls) call ∷ history never calls)) 3))
 struck = struck-third
 
+-- THE WATCH runs, "as list and view stand at each tick, for the listed time of the station in view, our own time when we hold or it isn't listed;
+-- a listed TW of 0 counts as 1 ms" (paper 02, E1): for every list of calls, a tick ends a participant's watch just where it makes ten or more for
+-- each of those milliseconds since the watch last restarted, as the calls tell it.
+pub watch : (calls : List Call) → AllTyped calls → participates (stateAfter never calls) ≡ true
+    → watchEnds (stateAfter never calls) ≡ leb (milliseconds (stateAfter never calls) * 10) (suc (watchRun (history never calls)))
+watch = watch-told
+
 -- "Our own areas are never written by a frame."
 pub our-areas : (station : Station) → Reachable station → (octets memory assembly : List ℕ) (at : ℕ) → InAreas (station .own .areas) at
     → getD (hearOf station octets memory assembly .memory) at 0 ≡ getD memory at 0
@@ -362,16 +374,16 @@ many-ticks = ticks-called
 pub many-ticks-answered : (count : ℕ) (station : Station) → ticksOf count station .answer ≡ tickOf station .answer
 many-ticks-answered = ticks-answer
 
--- HOW LONG IT IS QUIET: where the answer is a number, that many ticks bring no other phase, no other view and no frame that was not due before,
+-- HOW LONG IT IS QUIET, in every state whose watch times are octets: where the answer is a number, that many ticks bring no other phase, no other view and no frame that was not due before,
 -- and the next one does;
-pub quiet-till : (station : Station) → station .own .watch .0 < 256 → (ticks : ℕ) → quiet.quietOf station ≡ quiet.till ticks
+pub quiet-till : (station : Station) → quiet.Timed station → (ticks : ℕ) → quiet.quietOf station ≡ quiet.till ticks
     → ((count : ℕ) → count < ticks → quiet.tickIsNews (afterTicks count station) ≡ false) × (quiet.tickIsNews (afterTicks ticks station) ≡ true)
-quiet-till station few ticks told = subst (quiet.Exactly station) told (quiet-exact station few)
+quiet-till station timed ticks told = subst (quiet.Exactly station) told (quiet-exact station timed)
 
 -- else no tick ever does.
-pub quiet-for-ever : (station : Station) → station .own .watch .0 < 256 → quiet.quietOf station ≡ quiet.never
+pub quiet-for-ever : (station : Station) → quiet.Timed station → quiet.quietOf station ≡ quiet.never
     → (count : ℕ) → quiet.tickIsNews (afterTicks count station) ≡ false
-quiet-for-ever station few told = subst (quiet.Exactly station) told (quiet-exact station few)
+quiet-for-ever station timed told = subst (quiet.Exactly station) told (quiet-exact station timed)
 
 -- AREAS AND BLOCKS. Two parts of an area overlap just where some word belongs to both,
 pub overlap-is-shared : (a b : Part) → partsOverlap a b ≡ true → (word : ℕ) × Holds a word × Holds b word

@@ -22,7 +22,7 @@ use Rattle.frame_writing.specs.Writing.{wholeLength}
 use Rattle.ring.specs.Counts.{tokenTo, givenBy, gives, Does, passed, nothing}
 use Rattle.ring.specs.Events.{Stations, Lent, Event, asked, handed, afterEvent, CanCome}
 use Rattle.ring.specs.Hears.{accepts}
-use Rattle.ring.specs.Member.{InRing, restarted-in, cleared-kept, sent-in}
+use Rattle.ring.specs.Member.{InRing, restarted-in, cleared-kept, cleared-times, sent-in}
 use Rattle.station.specs.Acts.{same-move}
 use Rattle.ring.specs.Steps.{Ok, next-is, heard-in, sends, source-is, destination-is, cyclic-is, last-is, idle-station, idle-answer, asked-station, asked-answer, asked-read}
 
@@ -118,6 +118,7 @@ module _ (numbers : List ℕ) (laws-next : (x : ℕ) → x ∈ numbers → next 
             (restarted-in (ok .each n m) (cleared (stations n .members) (frame .source)) (viewHeard (stations n .view) frame)
             (gathered (stations n) frame (dataOf octets frame) (lent n .assembly) (lent n .memory) .gathering) (stations n .panel)
             (cleared-kept (ok .each n m) (frame .source))
+            (cleared-times (ok .each n m) (frame .source))
             (heard-in numbers (stations n .view) frame (ok .each n m .view) destination-in))
 
     -- nobody's settings change, and every watch has restarted

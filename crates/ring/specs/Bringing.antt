@@ -22,9 +22,9 @@ use Rattle.station.specs.declared.Station.{Station}
 use Rattle.frame_writing.specs.Writing.{noAreas, frameOf, outputOf, headerOf, frontOf, backOf, fixedFor}
 use Rattle.ring.specs.Demand.{LastCall, sent, heard}
 
--- all stations have no areas, so that a turn is one block, and a watch time of 1 ms, so that a silence comes in ten ticks
+-- all stations have no areas, so that a turn is one block, and a watch time of 2 ms, so that a silence comes in twenty ticks
 abbrev pub watch : Milliseconds
-watch = record { 0 = 1 }
+watch = record { 0 = 2 }
 
 abbrev pub settingsOf : ℕ → Settings
 settingsOf number = record { number = number; areas = noAreas; watch = watch }
@@ -61,21 +61,21 @@ small-at [] t at = omega arith
 small-at (octet ∷ rest) t at = small-cons (ltb octet 256) octet rest refl t (λ k s. small-at rest s k) at
 
 -- a station is started and hears two frames, which make a round, three times over; then a last one, whose destination becomes its view
-abbrev pub rounds : ℕ → List ℕ → List ℕ → List ℕ → List Call
-rounds number a b c =
-    start (settingsOf number) ∷ hears a ∷ hears b ∷ hears a ∷ hears b ∷ hears a ∷ hears b ∷ hears c ∷ []
+abbrev pub rounds : Settings → List ℕ → List ℕ → List ℕ → List Call
+rounds settings a b c =
+    start settings ∷ hears a ∷ hears b ∷ hears a ∷ hears b ∷ hears a ∷ hears b ∷ hears c ∷ []
 
 -- the station that has heard them, has waited for its number and has sent its request
-abbrev pub up : ℕ → ℕ → List ℕ → List ℕ → List ℕ → Station
-up number ticks a b c = after (stateAfter (stateAfter never (rounds number a b c)) (replicate ticks tick)) asks
+abbrev pub up : Settings → ℕ → List ℕ → List ℕ → List ℕ → Station
+up settings ticks a b c = after (stateAfter (stateAfter never (rounds settings a b c)) (replicate ticks tick)) asks
 
 ticked-on : (ticks : ℕ) {station : Station} → Reachable station → Reachable (stateAfter station (replicate ticks tick))
 ticked-on zero reached = reached
 ticked-on (suc ticks) reached = ticked-on ticks (called tick reached tt)
 
-pub up-reached : (number ticks : ℕ) (a b c : List ℕ) → ltb number 256 ≡ true → small a ≡ true → small b ≡ true → small c ≡ true
-    → Reachable (up number ticks a b c)
-up-reached number ticks a b c n p q r =
+pub up-reached : (settings : Settings) (ticks : ℕ) (a b c : List ℕ) → TypedSettings settings → small a ≡ true → small b ≡ true → small c ≡ true
+    → Reachable (up settings ticks a b c)
+up-reached settings ticks a b c typed p q r =
     called asks
     (ticked-on ticks
     (called (hears c)
@@ -85,7 +85,7 @@ up-reached number ticks a b c n p q r =
     (called (hears a)
     (called (hears b)
     (called (hears a)
-    (called (start (settingsOf number)) unstarted settings)
+    (called (start settings) unstarted typed)
     (small-at a p))
     (small-at b q))
     (small-at a p))
@@ -94,36 +94,36 @@ up-reached number ticks a b c n p q r =
     (small-at b q))
     (small-at c r)))
     tt
-  where
-    settings : TypedSettings (settingsOf number)
-    settings = record {
-      number = ltb-true number 256 n;
-      one = record { address = omega arith; size = omega arith };
-      two = record { address = omega arith; size = omega arith };
-      watch = omega arith;
-    }
+
+typed-settings : (number : ℕ) → number < 256 → TypedSettings (settingsOf number)
+typed-settings number few = record {
+  number = few;
+  one = record { address = omega arith; size = omega arith };
+  two = record { address = omega arith; size = omega arith };
+  watch = omega arith;
+}
 
 -- Each station hears two rounds' frames of the others, and last a token frame: its destination becomes the station's view.
 abbrev pub one : List ℕ → Station
-one last = up 1 40 (tokenOctets 2 3) (tokenOctets 3 2) last
+one last = up (settingsOf 1) 40 (tokenOctets 2 3) (tokenOctets 3 2) last
 
 abbrev pub two : List ℕ → Station
-two last = up 2 80 (tokenOctets 1 3) (tokenOctets 3 1) last
+two last = up (settingsOf 2) 80 (tokenOctets 1 3) (tokenOctets 3 1) last
 
 abbrev pub three : List ℕ → Station
-three last = up 3 120 (tokenOctets 1 2) (tokenOctets 2 1) last
+three last = up (settingsOf 3) 120 (tokenOctets 1 2) (tokenOctets 2 1) last
 
 pub one-reached : (last : List ℕ) → small last ≡ true → Reachable (one last)
 unfolding headerOf frontOf backOf fixedFor fieldsOf
-one-reached last s = up-reached 1 40 (tokenOctets 2 3) (tokenOctets 3 2) last refl refl refl s
+one-reached last s = up-reached (settingsOf 1) 40 (tokenOctets 2 3) (tokenOctets 3 2) last (typed-settings 1 (omega arith)) refl refl s
 
 pub two-reached : (last : List ℕ) → small last ≡ true → Reachable (two last)
 unfolding headerOf frontOf backOf fixedFor fieldsOf
-two-reached last s = up-reached 2 80 (tokenOctets 1 3) (tokenOctets 3 1) last refl refl refl s
+two-reached last s = up-reached (settingsOf 2) 80 (tokenOctets 1 3) (tokenOctets 3 1) last (typed-settings 2 (omega arith)) refl refl s
 
 pub three-reached : (last : List ℕ) → small last ≡ true → Reachable (three last)
 unfolding headerOf frontOf backOf fixedFor fieldsOf
-three-reached last s = up-reached 3 120 (tokenOctets 1 2) (tokenOctets 2 1) last refl refl refl s
+three-reached last s = up-reached (settingsOf 3) 120 (tokenOctets 1 2) (tokenOctets 2 1) last (typed-settings 3 (omega arith)) refl refl s
 
 abbrev pub numbers : List ℕ
 numbers = 1 ∷ 2 ∷ 3 ∷ []

@@ -1,12 +1,13 @@
 -- Demand 3: its premises, the disturbed ring as the paper takes it, and its conclusion, one sentence a field.
 use Rattle.laws.specs.Usual.{_≡_, true, List, [], _++_, ℕ, _+_, _-_, _*_, _≤_, length, take}
 use Rattle.frame.specs.Codes.{isToken}
-use Rattle.members.specs.Members.{ringOf}
+use Rattle.members.specs.Members.{entryOf, ringOf}
 use Rattle.frame_reading.specs.Reading.{readOf}
 use Rattle.settling.specs.Ring.{_∈_, Stations as Ascending}
 use Rattle.settling.specs.Steps.{afterAll, EachFinds}
 use Rattle.station.specs.Rules.Asking.{askOf}
 use Rattle.station.specs.Rules.Calls.{after, hear, ask, unrefused, verdict}
+use Rattle.station.specs.Rules.Waits.{countsAs}
 use Rattle.station.specs.States.Reachable.{Reachable, Typed}
 use Rattle.station.specs.declared.Asked.the-variants.{Octets}
 use Rattle.station.specs.Types.{Fields, Frame}
@@ -38,8 +39,10 @@ pub record Disturbed (numbers : List ℕ) (stations : Stations) : Type 0 where
   -- "all participating and listing exactly one another"
   pub participates : (number : ℕ) → number ∈ numbers → stations number .phase ≡ Participating
   pub list : (number : ℕ) → number ∈ numbers → ringOf number (stations number .members) ≡ numbers
-  -- "with equal watch times and every view among their numbers"
+  -- "with equal watch times and every view among their numbers"; since paper 02, E1, "one watch time, own and listed", 0 as 1 ms
   pub watch : (n m : ℕ) → n ∈ numbers → m ∈ numbers → stations n .own .watch .0 ≡ stations m .own .watch .0
+  pub listed : (n m : ℕ) → n ∈ numbers → m ∈ numbers → ¬ (m ≡ n)
+      → countsAs (entryOf (stations n .members) m .watch) .0 ≡ stations n .own .watch .0
   pub view : (number : ℕ) → number ∈ numbers → stations number .view ∈ numbers
 
 -- What is concluded of a list of events whose first part, "up to the first time that they all name one holder, or to its end if they never

@@ -35,6 +35,7 @@ module _ {numbers : List ℕ} {stations : Stations} (ring : Disturbed numbers st
       participates = ring .participates n m;
       own = ring .own n m;
       list = ring .list n m;
+      times = λ x p other. ring .listed n x m p other;
       view = ring .view n m;
       areas = what-holds n m .ours (on n m) .areas;
       place = what-holds n m .place;

@@ -10,6 +10,7 @@ use Rattle.station.specs.Rules.Calls.{Call, start, hear, after, refusedBy, verd
 use Rattle.station.specs.Rules.Hearing as hearing
 use Rattle.station.specs.Rules.State.{isParticipating, holds}
 use Rattle.station.specs.Rules.Ticking.{tickOf, watchEnds}
+use Rattle.station.specs.Rules.Waits.{countsAs}
 use Rattle.station.specs.declared.Asked.the-variants as answers
 use Rattle.station.specs.Types.{Fields, Refusal, Frame}
 use Rattle.station.specs.declared.Settings.{Settings}
@@ -60,12 +61,14 @@ abbrev pub endsWatch : Station → Bool
 endsWatch station = isParticipating (station .phase) && watchEnds station
 
 -- "any call that is refused, or any other call but a tick, a stop, an asking, a cyclic frame of whatever number, or a request of a number
--- outside the ring"
+-- outside the ring"; nor a request with another watch time than the one of the ring: "as long as every listed time stays that one: a request
+-- heard with another ends the cover, as a third miss does" (paper 02, E1)
 pub data Stray (numbers : List ℕ) (station : Station) : Call → Type 0 where
   refused : {call : Call} (refusal : Refusal) → verdict station call ≡ refusedBy refusal → Stray numbers station call
   starts : (settings : Settings) → Stray numbers station (start settings)
   harmless : (octets memory assembly : List ℕ) (fields : Fields) → readOf octets ≡ Frame fields → isCyclic (fields .code) ≡ false
-      → (fields .code ≡ Request → fields .source ∈ numbers) → Stray numbers station (hear octets memory assembly)
+      → (fields .code ≡ Request → (fields .source ∈ numbers) × (countsAs (fields .watch) .0 ≡ station .own .watch .0))
+      → Stray numbers station (hear octets memory assembly)
 
 -- An event that demand 3 covers: buffers "at lengths that 11 lets through, strays aside"; no tick that "ends a holder's watch"; and none that
 -- makes a station "missed three times running", which is told from the calls since off and not from the list.

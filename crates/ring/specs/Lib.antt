@@ -17,3 +17,5 @@ pub mod DemandThree
 pub mod Bringing
 pub mod Worked
 pub mod WorkedSilence
+pub mod AnotherTime
+pub mod WorkedDrive

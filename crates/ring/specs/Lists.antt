@@ -1,10 +1,11 @@
 -- What holds of the list of a station in a ring. Assumes nothing.
-use Rattle.laws.specs.Usual.{_≡_, refl, ap, true, cond, List, [], _∷_, ℕ, suc, getD, set}
+use Rattle.laws.specs.Usual.{_≡_, refl, sym, ap, _∙_, true, cond, List, [], _∷_, ℕ, suc, getD, set}
 use mathlib.Core.Logic.{_⊎_, inl, inr}
 use Prim.Native.Nat.{zero}
 use Rattle.members.specs.Members.{nobody, isListed, withEntry, numbersFrom, withOurs, ringOf}
 use Rattle.station.specs.Types.{Entry, Members}
 use Rattle.settling.specs.Ring.{_∈_}
+use Rattle.station.specs.States.ListKept.{set-either}
 use Rattle.station.specs.States.RingKept.{in-ring}
 
 -- an entry that is listed as the one before it was leaves the numbers as they were
@@ -18,6 +19,13 @@ numbers-set (old ∷ rest) (suc at) number entry e =
 pub ring-kept : (ours at : ℕ) (members : Members) (entry : Entry) → entry .listed ≡ isListed members at →
     ringOf ours (withEntry members at entry) ≡ ringOf ours members
 ring-kept ours at members entry e = ap (withOurs ours) (numbers-set (members .entries) at 0 entry e)
+
+-- an entry with the watch time of the one before it leaves every listed time as it was
+pub time-kept : (entries : List Entry) (at x : ℕ) (entry : Entry) → entry .watch ≡ getD entries at nobody .watch →
+    getD (set entries at entry) x nobody .watch ≡ getD entries x nobody .watch
+time-kept entries at x entry e =
+    set-either (λ (there : Entry). there .watch ≡ getD entries x nobody .watch) entries at entry x
+    (λ same. e ∙ ap (λ (n : ℕ). getD entries n nobody .watch) (sym same)) refl
 
 -- another station of the ring is listed
 pub other-listed : (ours x : ℕ) (members : Members) → x ∈ ringOf ours members → ¬ (x ≡ ours) → isListed members x ≡ true

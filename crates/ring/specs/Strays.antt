@@ -14,7 +14,9 @@ use Rattle.station.specs.Outcomes.HearCases as on-hearing
 use Rattle.station.specs.Rules.Hearing.{Hearing, requested}
 use Rattle.station.specs.RefusedLeft.{Spared, same, turnedOff, refused-left}
 use Rattle.station.specs.Rules.State.{isParticipating}
-use Rattle.station.specs.Types.{Fields, Frame}
+use Rattle.station.specs.States.ListKept.{set-either}
+use Rattle.station.specs.Rules.Waits.{countsAs}
+use Rattle.station.specs.Types.{Entry, Fields, Frame}
 use Rattle.station.specs.declared.Station.{Station}
 use Rattle.ring.specs.Counts.{Does, nothing}
 use Rattle.ring.specs.Events.{Stations, stray, afterEvent, Stray, refused, starts, harmless, CanCome}
@@ -51,13 +53,17 @@ module _ {numbers : List ℕ} {number : ℕ} {station : Station} (in-ring : InRi
   start-kept : (settings : _) → after station (start settings) ≡ station
   start-kept settings = rw (in-ring .participates)
 
-  -- a request of another station of the ring replaces its entry
-  request-kept : (frame : Fields) → frame .source ∈ numbers → ¬ (frame .source ≡ number) → Kept numbers number station (requested station frame)
-  request-kept frame m other = record {
+  -- a request of another station of the ring, with the one watch time, replaces its entry
+  request-kept : (frame : Fields) → frame .source ∈ numbers → countsAs (frame .watch) .0 ≡ station .own .watch .0 → ¬ (frame .source ≡ number)
+      → Kept numbers number station (requested station frame)
+  request-kept frame m timed other = record {
     in-ring = record {
       participates = in-ring .participates;
       own = in-ring .own;
       list = ring-kept number (frame .source) (station .members) _ (sym (listed in-ring (frame .source) m other)) ∙ in-ring .list;
+      times = λ x p q.
+          set-either (λ (entry : Entry). countsAs (entry .watch) .0 ≡ station .own .watch .0) (station .members .entries) (frame .source) _ x
+          (λ same. timed) (in-ring .times x p q);
       view = in-ring .view;
       areas = in-ring .areas;
       place = in-ring .place;
@@ -69,7 +75,7 @@ module _ {numbers : List ℕ} {number : ℕ} {station : Station} (in-ring : InRi
 
   -- a trigger, or a request of a station of the ring
   frame-kept : {octets memory assembly : List ℕ} {result : Hearing} (frame : Fields) → readOf octets ≡ Frame frame → isCyclic (frame .code) ≡ false →
-      (frame .code ≡ Request → frame .source ∈ numbers) → on-hearing.HearCases station octets memory assembly result →
+      (frame .code ≡ Request → (frame .source ∈ numbers) × (countsAs (frame .watch) .0 ≡ station .own .watch .0)) → on-hearing.HearCases station octets memory assembly result →
       Kept numbers number station (result .station)
   frame-kept frame read plain from (on-hearing.refuses refusal) = unchanged
   frame-kept frame read plain from (on-hearing.turnsOff out) = absurd (false≢true (sym out ∙ inside))
@@ -85,8 +91,8 @@ module _ {numbers : List ℕ} {number : ℕ} {station : Station} (in-ring : InRi
   frame-kept frame read plain from (on-hearing.heeds other facts (on-hearing.lists e c)) =
       let is = reads (on-hearing.whole-of facts) in
       let alike : other ≡ frame = cc in
-      let among : frame .source ∈ numbers = from (ap (λ (f : Fields). f .code) (sym alike) ∙ c) in
-      request-kept other (rw alike among) (λ d. eqb-false _ _ (on-hearing.other-of facts (on-hearing.lists-on e)) (d ∙ sym (in-ring .own)))
+      let among = from (ap (λ (f : Fields). f .code) (sym alike) ∙ c) in
+      request-kept other (rw alike (among .0)) (rw alike (among .1)) (λ d. eqb-false _ _ (on-hearing.other-of facts (on-hearing.lists-on e)) (d ∙ sym (in-ring .own)))
   frame-kept frame read plain from (on-hearing.heeds other facts (on-hearing.ignores e)) = unchanged
 
   pub stray-kept : {call : Call} → Stray numbers station call → Kept numbers number station (after station call)

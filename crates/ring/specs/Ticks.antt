@@ -9,20 +9,22 @@ use Rattle.misses.specs.MissHistory.{Brought}
 use Rattle.settling.specs.Ring.{_∈_, next}
 use Rattle.station.specs.Rules.Calls.{tick}
 use Rattle.station.specs.Rules.State.{isParticipating, counted}
-use Rattle.station.specs.Rules.Ticking.{watchEnds, watchEnded, later}
+use Rattle.station.specs.Rules.Ticking.{watchTime, watchEnds, watchEnded, later}
 use Rattle.station.specs.Rules.Waits.{longestWatch}
 use Rattle.station.specs.declared.Station.{Station}
 use Rattle.ring.specs.Counts.{Does, silent, nothing}
 use Rattle.ring.specs.Events.{Stations, ticked, afterEvent, endsWatch, CanCome}
-use Rattle.ring.specs.Member.{InRing, next-same, restarted-in, missed-kept}
+use Rattle.ring.specs.Member.{InRing, next-same, restarted-in, one-time, missed-kept, missed-times}
 use Rattle.ring.specs.Steps.{Ok}
 
 module _ (numbers : List ℕ) (laws-next : (x : ℕ) → x ∈ numbers → next numbers x ∈ numbers) (first-in : firstOf numbers ∈ numbers)
     (stations : Stations) (ok : Ok numbers stations) (can : CanCome numbers stations ticked) where
-  -- the watches end at all stations alike
+  -- the watches run for one time, and so they end at all stations alike
+  same-time : (n : ℕ) → n ∈ numbers → watchTime (stations n) .0 ≡ watchTime (stations (firstOf numbers)) .0
+  same-time n m = one-time (ok .each n m) ∙ ok .watch n (firstOf numbers) m first-in ∙ sym (one-time (ok .each (firstOf numbers) first-in))
+
   alike : (n : ℕ) → n ∈ numbers → watchEnds (stations n) ≡ watchEnds (stations (firstOf numbers))
-  alike n m =
-      ap₂ (λ (watch elapsed : ℕ). leb (watch * 10) (elapsed + 1)) (ok .watch n (firstOf numbers) m first-in) (ok .elapsed n (firstOf numbers) m first-in)
+  alike n m = ap₂ (λ (watch elapsed : ℕ). leb (watch * 10) (elapsed + 1)) (same-time n m) (ok .elapsed n (firstOf numbers) m first-in)
 
   -- all of them participate
   ends-is : (n : ℕ) → n ∈ numbers → endsWatch (stations n) ≡ watchEnds (stations (firstOf numbers))
@@ -56,6 +58,7 @@ module _ (numbers : List ℕ) (laws-next : (x : ℕ) → x ∈ numbers → next 
         participates = ok .each n m .participates;
         own = ok .each n m .own;
         list = ok .each n m .list;
+        times = ok .each n m .times;
         view = ok .each n m .view;
         areas = ok .each n m .areas;
         place = ok .each n m .place;
@@ -83,6 +86,7 @@ module _ (numbers : List ℕ) (laws-next : (x : ℕ) → x ∈ numbers → next 
           subst (InRing numbers n) (sym (ended n m))
           (restarted-in (ok .each n m) (missed (stations n .members) (stations n .view)) (nextAfter (stations n .own .number) (stations n .members) (stations n .view)) _ _
           (missed-kept (ok .each n m) (stations n .view) (strikes-nobody n m (ends-is n m ∙ e)))
+          (missed-times (ok .each n m) (stations n .view) (strikes-nobody n m (ends-is n m ∙ e)))
           (rw (ended-view n m) (laws-next (stations n .view) (ok .each n m .view))));
       watch = λ n k p q. ap (λ (s : Station). s .own .watch .0) (ended n p) ∙ ok .watch n k p q ∙ sym (ap (λ (s : Station). s .own .watch .0) (ended k q));
       elapsed = λ n k p q. ap (λ (s : Station). s .elapsed .0) (ended n p) ∙ sym (ap (λ (s : Station). s .elapsed .0) (ended k q));

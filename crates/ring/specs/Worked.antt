@@ -1,12 +1,13 @@
 -- A ring of three stations that meets the premises of demand 3, with two holders, and one pass that settles it. Assumes nothing.
 use Rattle.laws.specs.Usual.{_≡_, refl, sym, _∙_, true, cond, List, [], _∷_, ℕ, arith, replicate, eqb}
 use mathlib.Core.Logic.{inr}
-use Rattle.members.specs.Members.{ringOf}
+use Rattle.members.specs.Members.{entryOf, ringOf}
 use Rattle.frame_reading.specs.Reading.{fieldsOf, readOf}
 use Rattle.settling.specs.First.{FirstAgreement}
 use Rattle.settling.specs.Ring.{_∈_}
 use Rattle.station.specs.Rules.Calls.{after}
 use Rattle.station.specs.Rules.State.{holds}
+use Rattle.station.specs.Rules.Waits.{countsAs}
 use Rattle.station.specs.declared.Phase.the-variants.{Participating}
 use Rattle.station.specs.declared.Station.{Station}
 use Rattle.frame_writing.specs.Writing.{headerOf, frontOf, backOf, fixedFor}
@@ -16,13 +17,28 @@ use Rattle.ring.specs.Demand.{LastCall, Disturbed, RingSettles}
 use Rattle.ring.specs.DemandThree.{demand-three}
 use Rattle.ring.specs.Events.{Stations, Event, asked, afterEvent, AllName, CanCome}
 
+-- a station's entry of a number has 2 ms
+abbrev pub Timed : Station → ℕ → Type 0
+Timed station x = countsAs (entryOf (station .members) x .watch) .0 ≡ 2
+
+-- so has each of the other two, at stations 1, 2 and 3
+pub others-1 : (station : Station) → Timed station 2 → Timed station 3 → (x : ℕ) → x ∈ numbers → ¬ (x ≡ 1) → Timed station x
+others-1 station a b = each (λ x. ¬ (x ≡ 1) → Timed station x) (λ other. absurd (other refl)) (λ other. a) (λ other. b)
+
+pub others-2 : (station : Station) → Timed station 1 → Timed station 3 → (x : ℕ) → x ∈ numbers → ¬ (x ≡ 2) → Timed station x
+others-2 station a b = each (λ x. ¬ (x ≡ 2) → Timed station x) (λ other. a) (λ other. absurd (other refl)) (λ other. b)
+
+pub others-3 : (station : Station) → Timed station 1 → Timed station 2 → (x : ℕ) → x ∈ numbers → ¬ (x ≡ 3) → Timed station x
+others-3 station a b = each (λ x. ¬ (x ≡ 3) → Timed station x) (λ other. a) (λ other. b) (λ other. absurd (other refl))
+
 -- what a station of the worked rings is like, after the token frame from station 2 to station 3
 pub record Fits (number : ℕ) (station : Station) : Type 0 where
   pub last : LastCall passed station
   pub own : station .own .number ≡ number
   pub participates : station .phase ≡ Participating
   pub list : ringOf number (station .members) ≡ numbers
-  pub watch : station .own .watch .0 ≡ 1
+  pub watch : station .own .watch .0 ≡ 2
+  pub times : (x : ℕ) → x ∈ numbers → ¬ (x ≡ number) → Timed station x
   pub view : station .view ∈ numbers
 
 -- the premises of demand 3 hold of three such stations
@@ -39,6 +55,7 @@ disturbed stations fits = record {
   participates = λ n m. fits n m .participates;
   list = λ n m. fits n m .list;
   watch = λ n k p q. fits n p .watch ∙ sym (fits k q .watch);
+  listed = λ n k p q other. fits n p .times k q other ∙ sym (fits n p .watch);
   view = λ n m. fits n m .view;
 }
 
@@ -51,7 +68,15 @@ passedOn first third number =
 -- station 2 in such a ring
 pub two-fits : Fits 2 (after (two (tokenOctets 3 2)) asks)
 unfolding headerOf frontOf backOf fixedFor fieldsOf
-two-fits = record { last = two-last; own = refl; participates = refl; list = refl; watch = refl; view = at-3 }
+two-fits = record {
+  last = two-last;
+  own = refl;
+  participates = refl;
+  list = refl;
+  watch = refl;
+  times = others-2 (after (two (tokenOctets 3 2)) asks) refl refl;
+  view = at-3;
+}
 
 -- each of the three held
 abbrev pub stations : Stations
@@ -62,9 +87,9 @@ unfolding headerOf frontOf backOf fixedFor fieldsOf
 worked =
     disturbed stations
     (each (λ n. Fits n (stations n))
-    (record { last = one-heard (tokenOctets 3 1) refl refl; own = refl; participates = refl; list = refl; watch = refl; view = at-1 })
+    (record { last = one-heard (tokenOctets 3 1) refl refl; own = refl; participates = refl; list = refl; watch = refl; times = others-1 (stations 1) refl refl; view = at-1 })
     two-fits
-    (record { last = three-heard (tokenOctets 1 3) refl refl; own = refl; participates = refl; list = refl; watch = refl; view = at-3 }))
+    (record { last = three-heard (tokenOctets 1 3) refl refl; own = refl; participates = refl; list = refl; watch = refl; times = others-3 (stations 3) refl refl; view = at-3 }))
 
 -- the views are 1, 3 and 3
 pub views-before : (stations 1 .view ≡ 1) × (stations 2 .view ≡ 3) × (stations 3 .view ≡ 3)

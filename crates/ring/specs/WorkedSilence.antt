@@ -24,13 +24,13 @@ use Rattle.ring.specs.Events.{Stations, Event, ticked, afterEvent, AllNa
 use Rattle.ring.specs.Member.{InRing}
 use Rattle.ring.specs.Settles.{settles-from}
 use Rattle.ring.specs.Steps.{Ok}
-use Rattle.ring.specs.Worked.{Fits, disturbed, passedOn, two-fits, asksOne, can-come}
+use Rattle.ring.specs.Worked.{Fits, disturbed, passedOn, others-1, others-2, others-3, two-fits, asksOne, can-come}
 
 -- a station whose watch ends does not hold, and strikes nobody
-abbrev fine : Station → Bool
+abbrev pub fine : Station → Bool
 fine station = not (endsWatch station) || (not (holds station) && not (strikesInView station))
 
-abbrev allFine : Stations → Bool
+abbrev pub allFine : Stations → Bool
 allFine now = fine (now 1) && (fine (now 2) && fine (now 3))
 
 -- the views of 1 and 3 differ
@@ -42,10 +42,10 @@ denied true e = absurd (false≢true e)
 denied false e = refl
 
 -- each was brought there by calls since off
-abbrev AllBrought : Stations → Type 0
+abbrev pub AllBrought : Stations → Type 0
 AllBrought now = (n : ℕ) → n ∈ numbers → Brought (now n)
 
-tick-comes : (now : Stations) → AllBrought now → allFine now ≡ true → CanCome numbers now ticked
+pub tick-comes : (now : Stations) → AllBrought now → allFine now ≡ true → CanCome numbers now ticked
 tick-comes now brought e = (
   λ n m d. denied _ (first (not (holds (now n))) (not (strikesInView (now n))) (at-end n m d)),
   λ n m d.
@@ -125,38 +125,38 @@ unfolding headerOf frontOf backOf fixedFor fieldsOf
 worked =
     disturbed stations
     (each (λ n. Fits n (stations n))
-    (record { last = one-heard (tokenOctets 3 2) refl refl; own = refl; participates = refl; list = refl; watch = refl; view = at-3 })
+    (record { last = one-heard (tokenOctets 3 2) refl refl; own = refl; participates = refl; list = refl; watch = refl; times = others-1 (stations 1) refl refl; view = at-3 })
     two-fits
-    (record { last = three-heard (tokenOctets 2 1) refl refl; own = refl; participates = refl; list = refl; watch = refl; view = at-1 }))
+    (record { last = three-heard (tokenOctets 2 1) refl refl; own = refl; participates = refl; list = refl; watch = refl; times = others-3 (stations 3) refl refl; view = at-1 }))
 
 pub views-before : (stations 1 .view ≡ 3) × (stations 2 .view ≡ 3) × (stations 3 .view ≡ 1)
 unfolding headerOf frontOf backOf fixedFor fieldsOf
 views-before = (refl, refl, refl)
 
--- the silence comes with the tenth tick: the views are 1, 1 and 2 then
+-- the silence comes with the twentieth tick: the views are 1, 1 and 2 then
 abbrev pub silent : Stations
-silent = afterTicks stations 10
+silent = afterTicks stations 20
 
 pub views-silent : (silent 1 .view ≡ 1) × (silent 2 .view ≡ 1) × (silent 3 .view ≡ 2)
 unfolding headerOf frontOf backOf fixedFor fieldsOf
 views-silent = (refl, refl, refl)
 
 -- "E,1,1,1": one pass, one silence
-pub counted : (passes stations (ticksThenPass 10) ≡ 1) × (silences numbers stations (ticksThenPass 10) ≡ 1)
+pub counted : (passes stations (ticksThenPass 20) ≡ 1) × (silences numbers stations (ticksThenPass 20) ≡ 1)
 unfolding headerOf frontOf backOf fixedFor fieldsOf readOf
 counted = (refl, refl)
 
-agrees : Agrees stations 10
+agrees : Agrees stations 20
 unfolding headerOf frontOf backOf fixedFor fieldsOf
 agrees = record {
   brought = λ n m. reached-brought (left-by-calls (worked .last n m));
   waits = refl;
   differ = refl;
-  after = each (λ n. afterAll afterEvent stations (ticksThenPass 10) n .view ≡ 2) refl refl refl;
+  after = each (λ n. afterAll afterEvent stations (ticksThenPass 20) n .view ≡ 2) refl refl refl;
 }
 
-pub settled : RingSettles numbers stations (ticksThenPass 10) []
-settled = demand-three worked (come stations 10 agrees) (first-time stations 10 agrees)
+pub settled : RingSettles numbers stations (ticksThenPass 20) []
+settled = demand-three worked (come stations 20 agrees) (first-time stations 20 agrees)
 
 -- "three stations with views 2, 3, 1", each brought up by calls and just begun to participate. (No token frame that all sent or heard leaves
 -- these views, so this ring is not among those that demand 3 begins with; the same theorem holds from here.)
@@ -167,9 +167,9 @@ pub cycle-views : (cycle 1 .view ≡ 2) × (cycle 2 .view ≡ 3) × (cycle 3 .vi
 unfolding headerOf frontOf backOf fixedFor fieldsOf
 cycle-views = (refl, refl, refl)
 
-cycle-times : (n : ℕ) → n ∈ numbers → (cycle n .own .watch .0 ≡ 1) × (cycle n .elapsed .0 ≡ 0)
+cycle-times : (n : ℕ) → n ∈ numbers → (cycle n .own .watch .0 ≡ 2) × (cycle n .elapsed .0 ≡ 0)
 unfolding headerOf frontOf backOf fixedFor fieldsOf
-cycle-times = each (λ n. (cycle n .own .watch .0 ≡ 1) × (cycle n .elapsed .0 ≡ 0)) (refl, refl) (refl, refl) (refl, refl)
+cycle-times = each (λ n. (cycle n .own .watch .0 ≡ 2) × (cycle n .elapsed .0 ≡ 0)) (refl, refl) (refl, refl) (refl, refl)
 
 cycle-brought : AllBrought cycle
 unfolding headerOf frontOf backOf fixedFor fieldsOf
@@ -184,36 +184,36 @@ unfolding headerOf frontOf backOf fixedFor fieldsOf
 cycle-ok = record {
   each =
       each (λ n. InRing numbers n (cycle n))
-      (record { participates = refl; own = refl; list = refl; view = at-2; areas = refl; place = omega arith })
-      (record { participates = refl; own = refl; list = refl; view = at-3; areas = refl; place = omega arith })
-      (record { participates = refl; own = refl; list = refl; view = at-1; areas = refl; place = omega arith });
+      (record { participates = refl; own = refl; list = refl; times = others-1 (cycle 1) refl refl; view = at-2; areas = refl; place = omega arith })
+      (record { participates = refl; own = refl; list = refl; times = others-2 (cycle 2) refl refl; view = at-3; areas = refl; place = omega arith })
+      (record { participates = refl; own = refl; list = refl; times = others-3 (cycle 3) refl refl; view = at-1; areas = refl; place = omega arith });
   watch = λ n k p q. cycle-times n p .0 ∙ sym (cycle-times k q .0);
   elapsed = λ n k p q. cycle-times n p .1 ∙ sym (cycle-times k q .1);
   brought = cycle-brought;
 }
 
 -- views 3, 1, 2 after one silence, and 1, 2, 3 after another; then station 1 passes
-pub cycle-once : (afterTicks cycle 10 1 .view ≡ 3) × (afterTicks cycle 10 2 .view ≡ 1) × (afterTicks cycle 10 3 .view ≡ 2)
+pub cycle-once : (afterTicks cycle 20 1 .view ≡ 3) × (afterTicks cycle 20 2 .view ≡ 1) × (afterTicks cycle 20 3 .view ≡ 2)
 unfolding headerOf frontOf backOf fixedFor fieldsOf
 cycle-once = (refl, refl, refl)
 
-pub cycle-twice : (afterTicks cycle 20 1 .view ≡ 1) × (afterTicks cycle 20 2 .view ≡ 2) × (afterTicks cycle 20 3 .view ≡ 3)
+pub cycle-twice : (afterTicks cycle 40 1 .view ≡ 1) × (afterTicks cycle 40 2 .view ≡ 2) × (afterTicks cycle 40 3 .view ≡ 3)
 unfolding headerOf frontOf backOf fixedFor fieldsOf
 cycle-twice = (refl, refl, refl)
 
-pub cycle-counted : (passes cycle (ticksThenPass 20) ≡ 1) × (silences numbers cycle (ticksThenPass 20) ≡ 2)
+pub cycle-counted : (passes cycle (ticksThenPass 40) ≡ 1) × (silences numbers cycle (ticksThenPass 40) ≡ 2)
 unfolding headerOf frontOf backOf fixedFor fieldsOf readOf
 cycle-counted = (refl, refl)
 
-cycle-agrees : Agrees cycle 20
+cycle-agrees : Agrees cycle 40
 unfolding headerOf frontOf backOf fixedFor fieldsOf
 cycle-agrees = record {
   brought = cycle-brought;
   waits = refl;
   differ = refl;
-  after = each (λ n. afterAll afterEvent cycle (ticksThenPass 20) n .view ≡ 2) refl refl refl;
+  after = each (λ n. afterAll afterEvent cycle (ticksThenPass 40) n .view ≡ 2) refl refl refl;
 }
 
-pub cycle-settled : RingSettles numbers cycle (ticksThenPass 20) []
+pub cycle-settled : RingSettles numbers cycle (ticksThenPass 40) []
 cycle-settled =
-    settles-from ascending (each (λ n. isStation n ≡ true) refl refl refl) cycle-ok (come cycle 20 cycle-agrees) (first-time cycle 20 cycle-agrees)
+    settles-from ascending (each (λ n. isStation n ≡ true) refl refl refl) cycle-ok (come cycle 40 cycle-agrees) (first-time cycle 40 cycle-agrees)

@@ -47,11 +47,11 @@ all = listing (listing (listing noMembers 1 noAreas watch noAreas) 2 wide watch 
 abbrev among : ℕ → Areas → ℕ → Station
 among number areas view = begun (record { number = number; areas = areas; watch = watch }) (struck all number) view
 
-abbrev ticks : ℕ → Station → Station
+abbrev pub ticks : ℕ → Station → Station
 ticks zero station = station
 ticks (suc count) station = ticks count (tickOf station .station)
 
-abbrev zeros : List ℕ
+abbrev pub zeros : List ℕ
 zeros = replicate 17408 0
 
 -- a frame of one block from a station that has nothing
@@ -62,7 +62,7 @@ token source destination = frameOf (blockFields source destination noAreas watch
 abbrev part : ℕ → List ℕ
 part block = frameOf (blockFields 2 3 wide watch block) (replicate 1024 7)
 
-abbrev hears : Station → List ℕ → List ℕ → Hearing
+abbrev pub hears : Station → List ℕ → List ℕ → Hearing
 hears station octets memory = hearOf station octets memory zeros
 
 abbrev asks : Station → Asking

@@ -4,8 +4,9 @@ pub mod Types
 pub mod Rules
 -- The outcomes of each call, which the theorems go by.
 pub mod Outcomes
--- The rules worked out for three stations, and what a refusal leaves.
+-- The rules worked out for three stations, and how long the watch runs; what a refusal leaves.
 pub mod Acts
+pub mod Watches
 pub mod RefusedLeft
 -- What holds in every state that calls can leave.
 pub mod States

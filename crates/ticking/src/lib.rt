@@ -129,7 +129,7 @@ fn participant_tick(station: Station, elapsed: Ticks) -> Station
 {
     let own = station.own;
     let before = station.elapsed;
-    if watch_ends(own.watch, before) {
+    if watch_ends(ticking_watch::watch_time(station), before) {
         return watch_ended(station);
     }
     let waited = station.waited;

@@ -3,25 +3,25 @@ use Rattle.laws.specs.Usual.{false, cond, ℕ, suc, min, eqb}
 use Prim.Native.Nat.{zero}
 use Rattle.panel.specs.Panel.{ticked}
 use Rattle.station.specs.Rules.State.{counted}
-use Rattle.station.specs.Rules.Ticking.{later}
+use Rattle.station.specs.Rules.Ticking.{later, watchTime}
 use Rattle.station.specs.Rules.Waits.{detectionWait, acceptanceTime, numberWait, listeningTime, longestWatch}
 use Rattle.panel.specs.declared.Panel.{Panel}
 use Rattle.station.specs.declared.Phase.{Phase}
 use Rattle.station.specs.declared.Phase.the-variants.{Off, Listening, Startup, Joining, Participating}
-use Rattle.station.specs.declared.Settings.{Settings}
 use Rattle.station.specs.declared.Station.{Station}
+use Rattle.units.specs.declared.Milliseconds.{Milliseconds}
 use Rattle.units.specs.declared.Ticks.{Ticks}
 use Rattle.ticking_quiet.specs.Quiet.{leftIn}
 use Rattle.ticking_calm.specs.declared.Counts.{Counts}
 
 -- how many of the next `count` ticks only count: of an off station's and in listening all do. (Whether our request was sent does not matter to
 -- that: our settings may change in the tick in which it would fall due.)
-abbrev pub calmIn : Phase → Settings → ℕ → Ticks → Ticks → ℕ → ℕ
-calmIn Off own rounds elapsed waited count = count
-calmIn Listening own rounds elapsed waited count = count
-calmIn Startup own rounds elapsed waited count = min count (leftIn Startup own false rounds elapsed waited)
-calmIn Joining own rounds elapsed waited count = min count (leftIn Joining own false rounds elapsed waited)
-calmIn Participating own rounds elapsed waited count = min count (leftIn Participating own false rounds elapsed waited)
+abbrev pub calmIn : Phase → ℕ → Milliseconds → ℕ → Ticks → Ticks → ℕ → ℕ
+calmIn Off number time rounds elapsed waited count = count
+calmIn Listening number time rounds elapsed waited count = count
+calmIn Startup number time rounds elapsed waited count = min count (leftIn Startup number time false rounds elapsed waited)
+calmIn Joining number time rounds elapsed waited count = min count (leftIn Joining number time false rounds elapsed waited)
+calmIn Participating number time rounds elapsed waited count = min count (leftIn Participating number time false rounds elapsed waited)
 
 -- so many ticks more, up to a limit
 abbrev pub laterBy : ℕ → ℕ → Ticks → Ticks
@@ -33,18 +33,18 @@ tickedBy zero panel = panel
 tickedBy (suc count) panel = ticked (tickedBy count panel)
 
 -- the counts after so many ticks that only count
-abbrev pub countsAfter : Phase → Settings → ℕ → ℕ → Counts → Counts
-countsAfter Off own rounds count counts = counts
-countsAfter Listening own rounds count counts =
-    record { elapsed = laterBy (listeningTime (own .number)) count (counts .elapsed); waited = counts .waited; panel = counts .panel }
-countsAfter Startup own rounds count counts =
+abbrev pub countsAfter : Phase → ℕ → ℕ → ℕ → Counts → Counts
+countsAfter Off number rounds count counts = counts
+countsAfter Listening number rounds count counts =
+    record { elapsed = laterBy (listeningTime number) count (counts .elapsed); waited = counts .waited; panel = counts .panel }
+countsAfter Startup number rounds count counts =
     record { elapsed = laterBy acceptanceTime count (counts .elapsed); waited = counts .waited; panel = counts .panel }
-countsAfter Joining own rounds count counts = record {
+countsAfter Joining number rounds count counts = record {
   elapsed = laterBy detectionWait count (counts .elapsed);
-  waited = cond (eqb rounds 3) (laterBy (numberWait (own .number)) count (counts .waited)) (counts .waited);
+  waited = cond (eqb rounds 3) (laterBy (numberWait number) count (counts .waited)) (counts .waited);
   panel = counts .panel;
 }
-countsAfter Participating own rounds count counts =
+countsAfter Participating number rounds count counts =
     record { elapsed = laterBy longestWatch count (counts .elapsed); waited = counts .waited; panel = tickedBy count (counts .panel) }
 
 -- the counts of a station, and the station with others
@@ -55,7 +55,7 @@ abbrev pub withCounts : Station → Counts → Station
 withCounts station counts = counted station (station .own) (counts .elapsed) (counts .waited) (counts .panel)
 
 abbrev pub calmOf : Station → ℕ → ℕ
-calmOf station count = calmIn (station .phase) (station .own) (station .rounds) (station .elapsed) (station .waited) count
+calmOf station count = calmIn (station .phase) (station .own .number) (watchTime station) (station .rounds) (station .elapsed) (station .waited) count
 
 abbrev pub calmAfter : ℕ → Station → Station
-calmAfter count station = withCounts station (countsAfter (station .phase) (station .own) (station .rounds) count (countsOf station))
+calmAfter count station = withCounts station (countsAfter (station .phase) (station .own .number) (station .rounds) count (countsOf station))

@@ -5,12 +5,12 @@ use mathlib.Core.Bool.{and-false}
 use native.Mathlib.Nat.{le-refl}
 use borrow.Author.Tests.{lt-leb, le-ltb, ltb-true, ltb-false}
 use Rattle.station.specs.Rules.State.{counted}
-use Rattle.station.specs.Rules.Ticking.{later, waitEnds, tickedBy, tickOf}
-use Rattle.station.specs.Rules.Waits.{detectionWait, acceptanceTime, numberWait, longestWatch, watchTicks}
+use Rattle.station.specs.Rules.Ticking.{later, waitEnds, watchTime, watchOf, tickedBy, tickOf}
+use Rattle.station.specs.Rules.Waits.{detectionWait, acceptanceTime, numberWait, longestWatch}
 use Rattle.station.specs.declared.Phase.{Phase}
 use Rattle.station.specs.declared.Phase.the-variants.{Off, Listening, Startup, Joining, Participating}
-use Rattle.station.specs.declared.Settings.{Settings}
 use Rattle.station.specs.declared.Station.{Station}
+use Rattle.units.specs.declared.Milliseconds.{Milliseconds}
 use Rattle.units.specs.declared.Ticks.{Ticks}
 use Rattle.ticking_quiet.specs.Many.{afterTicks}
 use Rattle.ticking_quiet.specs.ManyLaws.{one-more}
@@ -45,16 +45,16 @@ module _ (station : Station) (count i : ℕ) where
 
   abbrev Counts-on : Phase → Type 0
   Counts-on phase =
-      tickedBy phase (withCounts station (countsAfter phase (station .own) (station .rounds) i (countsOf station)))
-      ≡ withCounts station (countsAfter phase (station .own) (station .rounds) (suc i) (countsOf station))
+      tickedBy phase (withCounts station (countsAfter phase (station .own .number) (station .rounds) i (countsOf station)))
+      ≡ withCounts station (countsAfter phase (station .own .number) (station .rounds) (suc i) (countsOf station))
 
   abbrev calm : Phase → ℕ
-  calm phase = calmIn phase (station .own) (station .rounds) (station .elapsed) (station .waited) count
+  calm phase = calmIn phase (station .own .number) (watchTime station) (station .rounds) (station .elapsed) (station .waited) count
 
   participant-on : i < calm Participating → Counts-on Participating
   participant-on h =
       let sum = not-above longestWatch i (station .elapsed) in
-      rw (lt-leb (watchTicks (station .own .watch)) (laterBy longestWatch i (station .elapsed) .0 + 1) (omega (arith, sum)))
+      rw (lt-leb (watchOf station) (laterBy longestWatch i (station .elapsed) .0 + 1) (omega (arith, sum)))
 
   startup-on : i < calm Startup → Counts-on Startup
   startup-on = by (ltb (station .elapsed .0) (numberWait number)) refl
@@ -137,7 +137,7 @@ none station = by (station .phase)
     waits true = refl
     waits false = refl
 
-    by : (phase : Phase) → station ≡ withCounts station (countsAfter phase (station .own) (station .rounds) 0 (countsOf station))
+    by : (phase : Phase) → station ≡ withCounts station (countsAfter phase (station .own .number) (station .rounds) 0 (countsOf station))
     by Off = refl
     by Listening = refl
     by Startup = refl
@@ -152,9 +152,10 @@ calm-ticks station count (suc ticks) h =
     ∙ calm-tick station count ticks (omega arith)
 
 -- no more of them than were asked about
-pub calm-few : (phase : Phase) (own : Settings) (rounds : ℕ) (elapsed waited : Ticks) (count : ℕ) → calmIn phase own rounds elapsed waited count ≤ count
-calm-few Off own rounds elapsed waited count = le-refl count
-calm-few Listening own rounds elapsed waited count = le-refl count
-calm-few Startup own rounds elapsed waited count = omega arith
-calm-few Joining own rounds elapsed waited count = omega arith
-calm-few Participating own rounds elapsed waited count = omega arith
+pub calm-few : (phase : Phase) (number : ℕ) (time : Milliseconds) (rounds : ℕ) (elapsed waited : Ticks) (count : ℕ)
+    → calmIn phase number time rounds elapsed waited count ≤ count
+calm-few Off number time rounds elapsed waited count = le-refl count
+calm-few Listening number time rounds elapsed waited count = le-refl count
+calm-few Startup number time rounds elapsed waited count = omega arith
+calm-few Joining number time rounds elapsed waited count = omega arith
+calm-few Participating number time rounds elapsed waited count = omega arith

@@ -1,7 +1,7 @@
 // Ticks that only count, many at once.
 use panel::Panel;
 use station::Phase;
-use station::Settings;
+use units::Milliseconds;
 use units::Ticks;
 ghost use Rattle.laws.specs.Usual.{_≡_, cond, not, _&&_, min, eqb};
 ghost use Rattle.station.specs.Rules.Waits.{detectionWait, acceptanceTime, numberWait};
@@ -49,58 +49,59 @@ fn runs(number: u8, count: Ticks) -> bool
     count.0 < wait.0
 }
 
-fn startup_left(own: Settings, sent: bool, elapsed: Ticks) -> u32
-    ensures { λ r. ⌜ r ≡ beforeRequest (not sent && runsOf (own .number) elapsed) (beforeOf (numberWait (own .number)) (elapsed .0)) (beforeOf acceptanceTime (elapsed .0)) ⌝ }
+fn startup_left(number: u8, sent: bool, elapsed: Ticks) -> u32
+    ensures { λ r. ⌜ r ≡ beforeRequest (not sent && runsOf number elapsed) (beforeOf (numberWait number) (elapsed .0)) (beforeOf acceptanceTime (elapsed .0)) ⌝ }
 {
-    let number = own.number;
     let awaited = !sent & runs(number, elapsed);
     let request = before(waits::number_wait(number), elapsed);
     before_request(awaited, request, before(waits::acceptance_time(), elapsed))
 }
 
-fn joining_left(own: Settings, rounds: u8, elapsed: Ticks, waited: Ticks) -> u32
-    ensures { λ r. ⌜ r ≡ beforeRequest (eqb rounds 3 && runsOf (own .number) waited) (beforeOf (numberWait (own .number)) (waited .0)) (beforeOf detectionWait (elapsed .0)) ⌝ }
+fn joining_left(number: u8, rounds: u8, elapsed: Ticks, waited: Ticks) -> u32
+    ensures { λ r. ⌜ r ≡ beforeRequest (eqb rounds 3 && runsOf number waited) (beforeOf (numberWait number) (waited .0)) (beforeOf detectionWait (elapsed .0)) ⌝ }
 {
-    let number = own.number;
     let awaited = (rounds == 3) & runs(number, waited);
     let request = before(waits::number_wait(number), waited);
     before_request(awaited, request, before(waits::detection_wait(), elapsed))
 }
 
-// The ticks before the next end in a phase.
+// The ticks before the next end in a phase, where the watch runs for a time.
 pub fn left_in(
     phase: Phase,
-    own: Settings,
+    number: u8,
+    time: Milliseconds,
     sent: bool,
     rounds: u8,
     elapsed: Ticks,
     waited: Ticks,
 ) -> u32
-    ensures { λ r. ⌜ r ≡ leftIn phase own sent rounds elapsed waited ⌝ }
+    ensures { λ r. ⌜ r ≡ leftIn phase number time sent rounds elapsed waited ⌝ }
 {
-    let number = own.number;
-    let watch = own.watch;
     match phase {
         Phase::Off => 0,
         Phase::Listening => before(waits::listening_time(number), elapsed),
-        Phase::Startup => startup_left(own, sent, elapsed),
-        Phase::Joining => joining_left(own, rounds, elapsed, waited),
-        Phase::Participating => before(waits::watch_ticks(watch), elapsed),
+        Phase::Startup => startup_left(number, sent, elapsed),
+        Phase::Joining => joining_left(number, rounds, elapsed, waited),
+        Phase::Participating => before(waits::watch_ticks(time), elapsed),
     }
 }
 
 // How many of the next `count` ticks only count.
 pub fn calm_in(
     phase: Phase,
-    own: Settings,
+    number: u8,
+    time: Milliseconds,
     rounds: u8,
     elapsed: Ticks,
     waited: Ticks,
     count: u32,
 ) -> u32
-    ensures { λ r. ⌜ r ≡ calmIn phase own rounds elapsed waited count ⌝ }
+    ensures { λ r. ⌜ r ≡ calmIn phase number time rounds elapsed waited count ⌝ }
 {
-    let calm = least(count, left_in(phase, own, false, rounds, elapsed, waited));
+    let calm = least(
+        count,
+        left_in(phase, number, time, false, rounds, elapsed, waited),
+    );
     match phase {
         Phase::Off => count,
         Phase::Listening => count,
@@ -144,10 +145,9 @@ fn waited_by(number: u8, rounds: u8, count: u32, waited: Ticks) -> Ticks
 }
 
 // The counts after so many ticks that only count.
-pub fn counts_after(phase: Phase, own: Settings, rounds: u8, count: u32, counts: Counts) -> Counts
-    ensures { λ r. ⌜ r ≡ countsAfter phase own rounds count counts ⌝ }
+pub fn counts_after(phase: Phase, number: u8, rounds: u8, count: u32, counts: Counts) -> Counts
+    ensures { λ r. ⌜ r ≡ countsAfter phase number rounds count counts ⌝ }
 {
-    let number = own.number;
     let elapsed = counts.elapsed;
     let waited = counts.waited;
     let panel = counts.panel;

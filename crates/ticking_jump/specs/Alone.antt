@@ -8,7 +8,7 @@ use lib.Arith.{digits-mod}
 use Rattle.laws.specs.Tests.{first, second}
 use Rattle.members.specs.Members.{isListed, nextAfter}
 use Rattle.station.specs.Rules.State.{isParticipating, holds, counted}
-use Rattle.station.specs.Rules.Ticking.{watchOf, tickOf}
+use Rattle.station.specs.Rules.Ticking.{watchTime, watchOf, tickOf}
 use Rattle.station.specs.Rules.Waits.{longestWatch}
 use Rattle.station.specs.declared.Phase.{Phase}
 use Rattle.station.specs.declared.Phase.the-variants.{Off, Listening, Startup, Joining, Participating}
@@ -19,7 +19,7 @@ use Rattle.ticking_calm.specs.Calm.{countsOf, withCounts}
 use Rattle.ticking_jump.specs.Jump.{isAlone, inTime, roundAfter}
 
 abbrev pub aloneAfter : ℕ → Station → Station
-aloneAfter count station = withCounts station (roundAfter (station .own) (countsOf station) count)
+aloneAfter count station = withCounts station (roundAfter (watchTime station) (countsOf station) count)
 
 -- one tick more around: the watch ends, or not
 module _ (watch elapsed count : ℕ) (some : 0 < watch) where
@@ -45,7 +45,7 @@ module _ (watch elapsed count : ℕ) (some : 0 < watch) where
       ap (λ (n : ℕ). n % watch) more ∙ digits-mod rounds h
 
 -- what is known of a station that is alone
-module _ (station : Station) (alone : (isAlone station && inTime (station .own) (countsOf station)) ≡ true) where
+module _ (station : Station) (alone : (isAlone station && inTime (watchTime station) (countsOf station)) ≡ true) where
   abbrev ours : ℕ
   ours = station .own .number
 
@@ -56,7 +56,7 @@ module _ (station : Station) (alone : (isAlone station && inTime (station .own) 
   nobody-else = eqb (nextAfter ours (station .members) ours) ours && not (isListed (station .members) ours)
 
   left-alone : (held && nobody-else) ≡ true
-  left-alone = first (held && nobody-else) (inTime (station .own) (countsOf station)) alone
+  left-alone = first (held && nobody-else) (inTime (watchTime station) (countsOf station)) alone
 
   participates : station .phase ≡ Participating
   participates = by (station .phase) (first (isParticipating (station .phase)) (holds station) (first held nobody-else left-alone))
@@ -78,9 +78,13 @@ module _ (station : Station) (alone : (isAlone station && inTime (station .own) 
   not-listed = not-true (isListed (station .members) ours) (second (eqb (nextAfter ours (station .members) ours) ours) (not (isListed (station .members) ours)) (second held nobody-else left-alone))
 
   short : station .elapsed .0 < watchOf station
-  short = ltb-true (station .elapsed .0) (watchOf station) (second (held && nobody-else) (inTime (station .own) (countsOf station)) alone)
+  short = ltb-true (station .elapsed .0) (watchOf station) (second (held && nobody-else) (inTime (watchTime station) (countsOf station)) alone)
 
-  module _ (few : station .own .watch .0 < 256) where
+  -- it holds, so its watch runs for its own time
+  pub own-time : watchTime station ≡ station .own .watch
+  own-time = rw (second (isParticipating (station .phase)) (holds station) (first held nobody-else left-alone))
+
+  module _ (few : watchTime station .0 < 256) where
     abbrev turn : ℕ → ℕ
     turn count = (station .elapsed .0 + count) % watchOf station
 
@@ -94,12 +98,12 @@ module _ (station : Station) (alone : (isAlone station && inTime (station .own) 
         by true e =
             rw (
               participates,
-              views-itself,
               e,
+              ended (watchOf station) (station .elapsed .0) count some (leb-true (watchOf station) (turn count + 1) e),
+              views-itself,
               own-next,
               not-listed,
               eq-eqb ours ours refl,
-              ended (watchOf station) (station .elapsed .0) count some (leb-true (watchOf station) (turn count + 1) e),
             )
         by false e =
             let below = leb-false (watchOf station) (turn count + 1) e in

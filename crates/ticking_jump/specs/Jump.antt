@@ -2,12 +2,13 @@
 use Rattle.laws.specs.Usual.{Bool, cond, not, _&&_, ℕ, _+_, _-_, _%_, eqb, ltb}
 use Rattle.members.specs.Members.{isListed, nextAfter}
 use Rattle.station.specs.Rules.State.{isParticipating, holds}
+use Rattle.station.specs.Rules.Ticking.{watchTime}
 use Rattle.station.specs.Rules.Waits.{watchTicks}
 use Rattle.station.specs.declared.Phase.{Phase}
-use Rattle.station.specs.declared.Settings.{Settings}
 use Rattle.station.specs.declared.Station.{Station}
 use Rattle.ticking_calm.specs.Calm.{calmIn, tickedBy, countsAfter, countsOf}
 use Rattle.ticking_calm.specs.declared.Counts.{Counts}
+use Rattle.units.specs.declared.Milliseconds.{Milliseconds}
 use Rattle.ticking_jump.specs.declared.Jumped.{Jumped}
 
 -- a participant that holds, after which nobody comes, and whose own number is not listed
@@ -18,30 +19,31 @@ isAlone station =
     && not (isListed (station .members) (station .own .number)))
 
 -- those that only count
-abbrev pub skipped : Phase → Settings → ℕ → Counts → ℕ → Jumped
-skipped phase own rounds counts count = record {
-  counts = countsAfter phase own rounds (calmIn phase own rounds (counts .elapsed) (counts .waited) count) counts;
-  ticks = count - calmIn phase own rounds (counts .elapsed) (counts .waited) count;
+abbrev pub skipped : Phase → ℕ → Milliseconds → ℕ → Counts → ℕ → Jumped
+skipped phase number time rounds counts count = record {
+  counts = countsAfter phase number rounds (calmIn phase number time rounds (counts .elapsed) (counts .waited) count) counts;
+  ticks = count - calmIn phase number time rounds (counts .elapsed) (counts .waited) count;
 }
 
 -- so many around the watch
-abbrev pub roundAfter : Settings → Counts → ℕ → Counts
-roundAfter own counts count = record {
-  elapsed = record { 0 = (counts .elapsed .0 + count) % watchTicks (own .watch) };
+abbrev pub roundAfter : Milliseconds → Counts → ℕ → Counts
+roundAfter time counts count = record {
+  elapsed = record { 0 = (counts .elapsed .0 + count) % watchTicks time };
   waited = counts .waited;
   panel = tickedBy count (counts .panel);
 }
 
 -- the watch has not run past its time, which is where calls alone made the state
-abbrev pub inTime : Settings → Counts → Bool
-inTime own counts = ltb (counts .elapsed .0) (watchTicks (own .watch))
+abbrev pub inTime : Milliseconds → Counts → Bool
+inTime time counts = ltb (counts .elapsed .0) (watchTicks time)
 
--- by the parts of a station, and whether it is alone
-abbrev pub jumpIn : Bool → Phase → Settings → ℕ → Counts → ℕ → Jumped
-jumpIn alone phase own rounds counts count =
-    cond (alone && inTime own counts)
-    (record { counts = roundAfter own counts count; ticks = 0 })
-    (skipped phase own rounds counts count)
+-- by the parts of a station, the time that its watch runs for, and whether it is alone
+abbrev pub jumpIn : Bool → Phase → ℕ → Milliseconds → ℕ → Counts → ℕ → Jumped
+jumpIn alone phase number time rounds counts count =
+    cond (alone && inTime time counts)
+    (record { counts = roundAfter time counts count; ticks = 0 })
+    (skipped phase number time rounds counts count)
 
 abbrev pub jumpOf : Station → ℕ → Jumped
-jumpOf station count = jumpIn (isAlone station) (station .phase) (station .own) (station .rounds) (countsOf station) count
+jumpOf station count =
+    jumpIn (isAlone station) (station .phase) (station .own .number) (watchTime station) (station .rounds) (countsOf station) count

@@ -1,7 +1,7 @@
 // Ticks jumped over at once, on the counts of a station alone.
 use station::Phase;
-use station::Settings;
 use ticking_calm::Counts;
+use units::Milliseconds;
 use units::Ticks;
 ghost use Rattle.laws.specs.Usual.{_≡_, _<_};
 ghost use Rattle.station.specs.Rules.Waits.{watchTicks};
@@ -14,27 +14,36 @@ pub struct Jumped {
 }
 
 // The next ticks that only count, `count` at most.
-fn skip(phase: Phase, own: Settings, rounds: u8, counts: Counts, count: u32) -> Jumped
-    ensures { λ r. ⌜ r ≡ skipped phase own rounds counts count ⌝ }
+fn skip(
+    phase: Phase,
+    number: u8,
+    time: Milliseconds,
+    rounds: u8,
+    counts: Counts,
+    count: u32,
+) -> Jumped
+    ensures { λ r. ⌜ r ≡ skipped phase number time rounds counts count ⌝ }
 {
     let elapsed = counts.elapsed;
     let waited = counts.waited;
-    let calm = ticking_calm::calm_in(phase, own, rounds, elapsed, waited, count);
+    let calm = ticking_calm::calm_in(phase, number, time, rounds, elapsed, waited, count);
+    let after = ticking_calm::counts_after(phase, number, rounds, calm, counts);
+    let ticks = count - calm;
     Jumped {
-        counts: ticking_calm::counts_after(phase, own, rounds, calm, counts),
-        ticks: count - calm,
+        counts: after,
+        ticks,
     }
 }
 
 // Ticks around the watch.
-fn go_round(own: Settings, counts: Counts, count: u32) -> Counts
-    requires { ⌜ counts .elapsed .0 < watchTicks (own .watch) ⌝ }
-    ensures { λ r. ⌜ r ≡ roundAfter own counts count ⌝ }
+fn go_round(time: Milliseconds, counts: Counts, count: u32) -> Counts
+    requires { ⌜ counts .elapsed .0 < watchTicks time ⌝ }
+    ensures { λ r. ⌜ r ≡ roundAfter time counts count ⌝ }
 {
     let before = counts.elapsed;
-    let watch = waits::watch_ticks(own.watch);
+    let watch = waits::watch_ticks(time);
     let place = (before.0 as u64 + count as u64) % watch.0 as u64;
-    let after = ticking_calm::counts_after(Phase::Participating, own, 0, count, counts);
+    let after = ticking_calm::counts_after(Phase::Participating, 0, 0, count, counts);
     let elapsed = Ticks(place as u32);
     Counts { elapsed, ..after }
 }
@@ -43,20 +52,21 @@ fn go_round(own: Settings, counts: Counts, count: u32) -> Counts
 pub fn jump(
     alone: bool,
     phase: Phase,
-    own: Settings,
+    number: u8,
+    time: Milliseconds,
     rounds: u8,
     counts: Counts,
     count: u32,
 ) -> Jumped
-    ensures { λ r. ⌜ r ≡ jumpIn alone phase own rounds counts count ⌝ }
+    ensures { λ r. ⌜ r ≡ jumpIn alone phase number time rounds counts count ⌝ }
 {
     let elapsed = counts.elapsed;
-    let watch = waits::watch_ticks(own.watch);
+    let watch = waits::watch_ticks(time);
     if alone & (elapsed.0 < watch.0) {
         return Jumped {
-            counts: go_round(own, counts, count),
+            counts: go_round(time, counts, count),
             ticks: 0,
         };
     }
-    skip(phase, own, rounds, counts, count)
+    skip(phase, number, time, rounds, counts, count)
 }

@@ -43,7 +43,9 @@ fn jump(station: Station, count: u32) -> Left
         panel: counter,
     };
     let alone = is_alone(station);
-    let jumped = ticking_jump::jump(alone, phase, own, station.rounds, counts, count);
+    let time = ticking_watch::watch_time(station);
+    let rounds = station.rounds;
+    let jumped = ticking_jump::jump(alone, phase, own.number, time, rounds, counts, count);
     let after = jumped.counts;
     let elapsed = after.elapsed;
     let waited = after.waited;

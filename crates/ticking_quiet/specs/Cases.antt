@@ -13,9 +13,9 @@ use Rattle.ticking_quiet.specs.Quiet.{never, till, quietOf, tickIsNews}
 abbrev third : Settings
 third = record { number = 3; areas = noAreas; watch = record { 0 = 2 } }
 
--- a list of station 9 alone
+-- a list of station 9 alone, with a watch time of 4 ms
 abbrev ninth : Members
-ninth = withEntry noMembers 9 (record { listed = true; areas = noAreas; watch = record { 0 = 2 }; misses = 0 })
+ninth = withEntry noMembers 9 (record { listed = true; areas = noAreas; watch = record { 0 = 4 }; misses = 0 })
 
 off-station : quietOf neverStarted ≡ never
 off-station = refl
@@ -31,12 +31,15 @@ starting = refl
 request-sent : quietOf (requestSent (fresh Startup third)) ≡ till 11999
 request-sent = refl
 
--- the watch, 20 ticks
-watching : quietOf (begun third ninth 9) ≡ till 19
+-- the watch: 40 ticks with 9 in view, 20 while we hold
+watching : quietOf (begun third ninth 9) ≡ till 39
 watching = refl
 
-last-tick : tickIsNews (afterTicks 19 (begun third ninth 9)) ≡ true
+last-tick : tickIsNews (afterTicks 39 (begun third ninth 9)) ≡ true
 last-tick = refl
+
+holding : quietOf (begun third ninth 3) ≡ till 19
+holding = refl
 
 alone : quietOf (begun third noMembers 3) ≡ never
 alone = refl

@@ -11,7 +11,7 @@ use Rattle.members.specs.Listing.{bare, overlapsListed}
 use Rattle.station.specs.Rules.Asking.{placedIn}
 use Rattle.station.specs.Rules.Starting.{startedUp}
 use Rattle.station.specs.Rules.State.{counted, fresh}
-use Rattle.station.specs.Rules.Ticking.{later, waitEnds, waitedThen, fallsDue, joiningWait, watchEnded, watchEnds, watchOf, tickedBy, tickOf}
+use Rattle.station.specs.Rules.Ticking.{later, waitEnds, waitedThen, fallsDue, joiningWait, watchEnded, watchTime, watchEnds, watchOf, tickedBy, tickOf}
 use Rattle.station.specs.Rules.Waits.{detectionWait, acceptanceTime, numberWait, listeningTime, longestWatch}
 use Rattle.station.specs.declared.Phase.{Phase}
 use Rattle.station.specs.declared.Phase.the-variants.{Off, Listening, Startup, Joining, Participating}
@@ -266,7 +266,7 @@ module _ (station : Station) where
       by false e =
           joining-goes p e (eqb (station .rounds) 3) refl (fallsDue station (station .waited) counts) (settings-kept (station .waited) counts .0)
 
-  module _ (p : station .phase ≡ Participating) (few : station .own .watch .0 < 256) where
+  module _ (p : station .phase ≡ Participating) (few : watchTime station .0 < 256) where
     -- the watch ends, and the view stays: we hold and are alone
     alone-ended : nextInView station ≡ station .view → Step station (watchEnded station) never
     alone-ended same =
@@ -299,7 +299,7 @@ module _ (station : Station) where
             let grown : min longestWatch (elapsed + 1) ≡ elapsed + 1 = omega arith in
             later-on left no-news-running (rw (p, a, grown) (ap till (omega arith)))
 
-  pub step : station .own .watch .0 < 256 → Step station (tickOf station .station) (quietOf station)
+  pub step : watchTime station .0 < 256 → Step station (tickOf station .station) (quietOf station)
   step few = by (station .phase) refl
     where
       by : (phase : Phase) → station .phase ≡ phase → Step station (tickedBy phase station) (quietIn phase (nextInView station) station)

@@ -7,6 +7,7 @@ pub use waits_lengths::number_wait;
 pub use waits_watch::longest_watch;
 pub use waits_watch::watch_ends;
 pub use waits_watch::watch_ticks;
+pub use waits_watch::watch_time;
 ghost use Rattle.laws.specs.Usual.{_≡_, _+_};
 ghost use Rattle.station.specs.Rules.Ticking.{later as laterOf, waitEnds, waitedThen};
 

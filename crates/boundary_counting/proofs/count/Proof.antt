@@ -1,6 +1,6 @@
 -- `boundary_counting::count` meets its contract.
 use Rattle.laws.specs.Usual.{sym, ap, _∙_, Bool, cond, needs}
-use Rattle.boundary_participant.specs.Quick.{quietAfter}
+use Rattle.boundary_watch.specs.Watch.{quietAfter}
 use Rattle.boundary_waiting.specs.Waiting.{waitedCore}
 use Rattle.boundary_counting.proofs.count.Statement.{statement}
 use Rattle.boundary_counting.proofs.count.Tie as tie

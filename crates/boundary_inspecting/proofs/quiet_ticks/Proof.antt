@@ -14,9 +14,9 @@ quiet-ticks-requires : tie.Need-quiet-ticks-requires
 quiet-ticks-requires c κs = search needs
 
 returns : tie.Need-returns
-returns c areas watch misses =
-    c .quiet-ticks .ensures areas watch misses
-    ∙ ap (λ (k : Core). quietNumbers (quietOf (stationIn k (c .before .before .args .listed .now) areas watch misses))) (c .before .core-in .ensures .0)
+returns c areas misses =
+    c .quiet-ticks .ensures areas misses
+    ∙ ap (λ (k : Core). quietNumbers (quietOf (stationIn k (c .before .before .args .listed .now) areas (c .before .before .args .watch .now) misses))) (c .before .core-in .ensures .0)
 
 pub quiet-ticks-spec : {M : Type 1} → statement M
 quiet-ticks-spec = tie.close (tie.spec core-in-requires quiet-ticks-requires returns)

@@ -19,7 +19,7 @@ phase-number-requires : tie.Need-phase-number-requires
 phase-number-requires c κs = search needs
 
 returns : tie.Need-returns
-returns c = rw (c .before .before .before .before .before .phase-number .ensures, c .before .before .before .before .before .before .with-counts .ensures, c .before .before .before .before .before .before .before .counts-after .ensures, c .before .before .before .before .before .before .before .before .counts-in .ensures, c .before .before .before .before .before .before .before .before .before .before .phase-of .ensures)
+returns c = rw (c .before .before .before .before .before .phase-number .ensures, c .before .before .before .before .before .before .with-counts .ensures, c .before .before .before .before .before .before .before .counts-after .ensures, c .before .before .before .before .before .before .before .before .counts-in .ensures, c .before .before .before .before .before .before .before .before .before .phase-of .ensures)
 
 pub count-on-spec : {M : Type 1} → statement M
 count-on-spec =

@@ -24,13 +24,17 @@ abbrev μ-loop : tie.MeasureT-loop
 loop-holds : tie.Need-loop-holds Inv-loop μ-loop
 loop-holds c = refl
 
+watch-time-requires : tie.Need-watch-time-requires Inv-loop μ-loop
+watch-time-requires c κs = tt
+
 is-calm-requires : tie.Need-is-calm-requires Inv-loop μ-loop
 is-calm-requires c κs = tt
 
 sub-jump : tie.Need-sub-jump Inv-loop μ-loop
 sub-jump c =
-    let at = c .before .before .before .loop in
-    omega (arith, some-left (at .after) (at .left) (c .before .before .is-calm .ensures) (c .before .if1 .taken))
+    let known = c .before .before .before in
+    let at = known .before .before .before .before .loop in
+    omega (arith, some-left (at .after) (known .before .watch-time .result) (at .left) (known .is-calm .ensures) (c .before .before .if1 .taken))
 
 jump-requires : tie.Need-jump-requires Inv-loop μ-loop
 jump-requires c κs = tt
@@ -40,19 +44,22 @@ tick-requires c κs = tt
 
 loop-less : tie.Need-loop-less Inv-loop μ-loop
 loop-less c =
-    let at = c .before .before .before .before .before .before .before .before .before .before .before .loop in
-    omega (arith, some-left (at .after) (at .left) (c .before .before .before .before .before .before .before .before .before .before .is-calm .ensures) (c .before .before .before .before .before .before .before .before .before .if1 .taken), c .before .before .before .before .before .before .before .jump .ensures .0)
+    let known = c .before .before .before .before .before .before .before .before .before .before .before in
+    let at = known .before .before .before .before .loop in
+    omega (arith, some-left (at .after) (known .before .watch-time .result) (at .left) (known .is-calm .ensures) (c .before .before .before .before .before .before .before .before .before .before .if1 .taken), c .before .before .before .before .before .before .before .jump .ensures .0)
 
 loop-again : tie.Need-loop-again Inv-loop μ-loop
 loop-again c =
-    let at = c .before .before .before .before .before .before .before .before .before .before .before .loop in
+    let known = c .before .before .before .before .before .before .before .before .before .before .before in
+    let at = known .before .before .before .before .loop in
     let jumped = c .before .before .before .before .before .before .before .jump in
     let ticked = c .before .tick in
     let last = ticked .last .1 in
     let list = membersIn (last .0) (last .1 .0) (last .1 .1 .0) (last .1 .1 .1 .0) in
     let before = stationIn (jumped .result .core) (at .listed) (at .areas) (at .watch) (at .misses) in
     let after = left-station (ticked .result .core) list (tickOf before .station) (ticked .ensures .0) (ticked .ensures .1 .1) in
-    tick-on (stationIn (at .after) (at .listed) (at .areas) (at .watch) (at .misses)) before (stationOf (ticked .result .core) list) (at .left) (jumped .result .ticks) (some-left (at .after) (at .left) (c .before .before .before .before .before .before .before .before .before .before .is-calm .ensures) (c .before .before .before .before .before .before .before .before .before .if1 .taken)) (jumped .ensures .0) (jumped .ensures .1 (at .areas) (at .watch) (at .misses)) after
+    let some = some-left (at .after) (known .before .watch-time .result) (at .left) (known .is-calm .ensures) (c .before .before .before .before .before .before .before .before .before .before .if1 .taken) in
+    tick-on (stationIn (at .after) (at .listed) (at .areas) (at .watch) (at .misses)) before (stationOf (ticked .result .core) list) (at .left) (jumped .result .ticks) some (jumped .ensures .0) (jumped .ensures .1 (at .areas) (at .misses)) after
     ∙ at .inv
 
 count-on-requires : tie.Need-count-on-requires Inv-loop μ-loop
@@ -69,12 +76,13 @@ ticked-answer-requires c κs = tt
 
 returns : tie.Need-returns Inv-loop μ-loop
 returns c =
-    let a = c .before .before .before .before .before .before .before .args in
-    let at = c .before .before .before .before .before .before .loop in
+    let known = c .before .before .before .before .before in
+    let at = known .before .before .before .before .loop in
+    let a = known .before .before .before .before .before .args in
     let station = stationIn (a .core) (a .listed .now) (a .areas .now) (a .watch .now) (a .misses .now) in
-    let calm = sym (c .before .before .before .before .before .is-calm .ensures) ∙ not-false (c .before .before .before .before .before .is-calm .result) (c .before .before .before .before .if1 .left) in
+    let calm = sym (known .is-calm .ensures) ∙ not-false (known .is-calm .result) (c .before .before .before .before .if1 .left) in
     let done =
-    sym (calm-station (at .after) (membersIn (at .listed) (at .areas) (at .watch) (at .misses)) (at .left) calm)
+    sym (calm-station (at .after) (membersIn (at .listed) (at .areas) (at .watch) (at .misses)) (at .left) (known .before .watch-time .ensures (at .areas) (at .misses)) calm)
     ∙ at .inv
     ∙ sym (ticks-station (a .count) station) in
     let answer = c .before .answer-in .ensures ∙ ap tickAnswer (c .before .before .phase-of .ensures) ∙ sym (ticks-answer (a .count) station) in
@@ -87,6 +95,7 @@ ticks-spec =
     Inv-loop
     μ-loop
     loop-holds
+    watch-time-requires
     is-calm-requires
     sub-jump
     jump-requires

@@ -8,6 +8,9 @@ use Rattle.boundary_quiet.proofs.quiet_ticks.Tie as tie
 phase-of-requires : tie.Need-phase-of-requires
 phase-of-requires c κs = search needs
 
+watch-time-requires : tie.Need-watch-time-requires
+watch-time-requires c κs = search needs
+
 left-in-requires : tie.Need-left-in-requires
 left-in-requires c κs = search needs
 
@@ -48,45 +51,46 @@ unless-requires-5 : tie.Need-unless-requires-5
 unless-requires-5 c κs = search needs
 
 returns : tie.Need-returns
-returns c = λ areas watch misses.
+returns c = λ areas misses.
     let a = c .before .before .before .before .before .before .before .before .args in
     let told = c .before .enum-told .given .1 in
     c .unless .ensures
-    ∙ quiet-by (a .core) (a .listed .now) areas watch misses Off (sym (c .before .before .before .before .before .before .before .phase-of .ensures) ∙ told)
+    ∙ quiet-by (a .core) (a .listed .now) areas (a .watch .now) misses Off (sym (c .before .before .before .before .before .before .before .phase-of .ensures) ∙ told)
 
 returns-2 : tie.Need-returns-2
-returns-2 c = λ areas watch misses.
+returns-2 c = λ areas misses.
     let a = c .before .before .before .before .before .before .before .before .before .before .before .args in
     let told = c .before .before .before .before .enum-told2 .given .1 in
     c .unless2 .ensures
-    ∙ rw (c .before .before .before .listening-time .ensures, c .before .before .before .before .before .before .left-in .ensures, told) (quiet-by (a .core) (a .listed .now) areas watch misses Listening (sym (c .before .before .before .before .before .before .before .before .before .before .phase-of .ensures) ∙ told))
+    ∙ rw (c .before .before .before .listening-time .ensures, c .before .before .before .before .before .before .left-in .ensures, told) (quiet-by (a .core) (a .listed .now) areas (a .watch .now) misses Listening (sym (c .before .before .before .before .before .before .before .before .before .before .phase-of .ensures) ∙ told))
 
 returns-3 : tie.Need-returns-3
-returns-3 c = λ areas watch misses.
+returns-3 c = λ areas misses.
     let a = c .before .before .before .before .before .before .before .before .args in
     let told = c .before .enum-told3 .given .1 in
     c .unless3 .ensures
-    ∙ rw (c .before .before .before .left-in .ensures, told) (quiet-by (a .core) (a .listed .now) areas watch misses Startup (sym (c .before .before .before .before .before .before .before .phase-of .ensures) ∙ told))
+    ∙ rw (c .before .before .before .left-in .ensures, told) (quiet-by (a .core) (a .listed .now) areas (a .watch .now) misses Startup (sym (c .before .before .before .before .before .before .before .phase-of .ensures) ∙ told))
 
 returns-4 : tie.Need-returns-4
-returns-4 c = λ areas watch misses.
+returns-4 c = λ areas misses.
     let a = c .before .before .before .before .before .before .before .before .args in
     let told = c .before .enum-told4 .given .1 in
     c .unless4 .ensures
-    ∙ rw (c .before .before .before .left-in .ensures, told) (quiet-by (a .core) (a .listed .now) areas watch misses Joining (sym (c .before .before .before .before .before .before .before .phase-of .ensures) ∙ told))
+    ∙ rw (c .before .before .before .left-in .ensures, told) (quiet-by (a .core) (a .listed .now) areas (a .watch .now) misses Joining (sym (c .before .before .before .before .before .before .before .phase-of .ensures) ∙ told))
 
 returns-5 : tie.Need-returns-5
-returns-5 c = λ areas watch misses.
+returns-5 c = λ areas misses.
     let a = c .before .before .before .before .before .before .before .before .before .args in
     let told = c .before .before .enum-told5 .given .1 in
     c .unless5 .ensures
-    ∙ rw (c .before .next-after .ensures, c .before .before .before .before .left-in .ensures, told) (quiet-by (a .core) (a .listed .now) areas watch misses Participating (sym (c .before .before .before .before .before .before .before .before .phase-of .ensures) ∙ told))
+    ∙ rw (c .before .next-after .ensures, c .before .before .before .before .left-in .ensures, c .before .before .before .before .before .watch-time .ensures areas misses, told) (quiet-by (a .core) (a .listed .now) areas (a .watch .now) misses Participating (sym (c .before .before .before .before .before .before .before .before .phase-of .ensures) ∙ told))
 
 pub quiet-ticks-spec : {M : Type 1} → statement M
 quiet-ticks-spec =
     tie.close
     (tie.spec
     phase-of-requires
+    watch-time-requires
     left-in-requires
     enum-told
     unless-requires

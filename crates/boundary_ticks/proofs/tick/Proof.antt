@@ -13,6 +13,9 @@ use Rattle.boundary_ticks.proofs.tick.Tie as tie
 core-in-requires : tie.Need-core-in-requires
 core-in-requires c κs = search needs
 
+watch-time-requires : tie.Need-watch-time-requires
+watch-time-requires c κs = search needs
+
 counts-requires : tie.Need-counts-requires
 counts-requires c κs = search needs
 
@@ -27,11 +30,13 @@ done-requires c κs = search needs
 
 returns : tie.Need-returns
 returns c =
-    let a = c .before .before .before .before .before .before .before .before .args in
+    let known = c .before .before .before .before .before in
+    let read = known .before .before .before .before in
+    let a = read .before .before .args in
     let call : Core → Ticking = λ (k : Core). tickOf (stationIn k (a .listed .now) (a .areas .now) (a .watch .now) (a .misses .now)) in
-    let law = counted (c .before .before .before .before .before .before .core-in .result) (membersIn (a .listed .now) (a .areas .now) (a .watch .now) (a .misses .now)) (sym (c .before .before .before .before .before .counts .ensures) ∙ c .before .before .before .before .if1 .taken) in
+    let law = counted (read .core-in .result) (membersIn (a .listed .now) (a .areas .now) (a .watch .now) (a .misses .now)) (known .before .watch-time .ensures (a .areas .now) (a .misses .now)) (sym (known .counts .ensures) ∙ c .before .before .before .before .if1 .taken) in
     call-kept (λ (k : Core). call k .station) (λ (k : Core). tickedAnswer (call k .answer)) _ _ _ _ _ _ _
-    (c .before .before .before .before .before .before .core-in .ensures .0)
+    (read .core-in .ensures .0)
     (c .before .before .count .ensures ∙ law .0, law .1)
     (c .before .keep .ensures .0, (c .before .keep .ensures .1, c .done .ensures))
 
@@ -43,10 +48,11 @@ keep-outcome-requires c κs = search needs
 
 returns-2 : tie.Need-returns-2
 returns-2 c =
-    let a = c .before .before .before .before .before .before .before .before .before .before .before .args in
+    let read = c .before .before .before .before .before .before .before .before .before .before .before .before in
+    let a = read .before .before .args in
     let call : Core → Ticking = λ (k : Core). tickOf (stationIn k (a .listed .now) (a .areas .now) (a .watch .now) (a .misses .now)) in
     call-kept (λ (k : Core). call k .station) (λ (k : Core). tickedAnswer (call k .answer)) _ _ _ _ _ _ _
-    (c .before .before .before .before .before .before .before .before .before .core-in .ensures .0)
+    (read .core-in .ensures .0)
     (c .before .tick .ensures)
     (c .keep-outcome .ensures)
 
@@ -55,6 +61,7 @@ tick-spec =
     tie.close
     (tie.spec
     core-in-requires
+    watch-time-requires
     counts-requires
     count-requires
     keep-requires

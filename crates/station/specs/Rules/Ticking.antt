@@ -1,13 +1,13 @@
 -- A tick (paper 01, "Starting and joining", "The token view and the watch").
-use Rattle.laws.specs.Usual.{Bool, cond, _&&_, ℕ, _+_, min, eqb, leb, ltb}
-use Rattle.members.specs.Members.{numbersOf, nextAfter, isListed, strikes, missed}
+use Rattle.laws.specs.Usual.{Bool, cond, not, _&&_, _||_, ℕ, _+_, min, eqb, leb, ltb}
+use Rattle.members.specs.Members.{numbersOf, entryOf, nextAfter, isListed, strikes, missed}
 use Rattle.panel.specs.Panel.{ticked}
 use Rattle.station.specs.Rules.Data.{without}
 use Rattle.station.specs.Rules.Starting.{ownDue, startedUp}
-use Rattle.station.specs.Rules.State.{fresh, counted}
+use Rattle.station.specs.Rules.State.{fresh, holds, counted}
 use Rattle.station.specs.Rules.Token.{restarted}
-use Rattle.station.specs.Rules.Waits.{detectionWait, acceptanceTime, numberWait, listeningTime, watchTicks, longestWatch}
-use Rattle.station.specs.Types.{Ticks, Settings, Phase, Off, Listening, Startup, Joining, Participating, Station, Ticked}
+use Rattle.station.specs.Rules.Waits.{detectionWait, acceptanceTime, numberWait, listeningTime, watchTicks, countsAs, longestWatch}
+use Rattle.station.specs.Types.{Milliseconds, Ticks, Settings, Phase, Off, Listening, Startup, Joining, Participating, Station, Ticked}
 use Rattle.station.specs.declared.Ticked.the-variants as answers
 
 -- one tick more, up to a limit
@@ -59,11 +59,18 @@ watchEnded station =
     (station .gathering))
     (ticked (station .panel))
 
--- the watch that runs: "at our own watch time"
-abbrev pub watchOf : Station → ℕ
-watchOf station = watchTicks (station .own .watch)
+-- "The watch shall now run, as list and view stand at each tick, for the listed time of the station in view, our own time when we hold or it
+-- isn't listed; a listed TW of 0 counts as 1 ms." (Paper 02, E1.)
+abbrev pub watchTime : Station → Milliseconds
+watchTime station =
+    cond (holds station || not (isListed (station .members) (station .view)))
+    (station .own .watch)
+    (countsAs (entryOf (station .members) (station .view) .watch))
 
--- "It ends once ten ticks for each of its milliseconds have come."
+abbrev pub watchOf : Station → ℕ
+watchOf station = watchTicks (watchTime station)
+
+-- "It ends once ten ticks for each of its milliseconds have come": a time that became shorter may have come already
 abbrev pub watchEnds : Station → Bool
 watchEnds station = leb (watchOf station) (station .elapsed .0 + 1)
 

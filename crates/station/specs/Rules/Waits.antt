@@ -1,5 +1,5 @@
 -- The waits of clause 8.7 of JEM 1479, which gives them in milliseconds, as ticks. A wait of w ticks ends in the w-th tick after it began.
-use Prim.Native.Nat.{ℕ, _+_, _*_, _%_}
+use Prim.Native.Nat.{ℕ, _+_, _*_, _%_, max}
 use Rattle.units.specs.Time.{asWait, inTicks}
 use Rattle.units.specs.declared.Milliseconds.{Milliseconds}
 
@@ -27,6 +27,10 @@ listeningTime number = detectionWait + triggerWait number
 abbrev pub watchTicks : Milliseconds → ℕ
 watchTicks watch = inTicks (asWait watch) .0
 
--- no watch is longer: "An own watch time is 1 to 255 ms"
+-- "a listed TW of 0 counts as 1 ms" (paper 02, E1)
+abbrev pub countsAs : Milliseconds → Milliseconds
+countsAs watch = record { 0 = max 1 (watch .0) }
+
+-- no watch is longer: "An own watch time is 1 to 255 ms", and a listed one is an octet
 abbrev pub longestWatch : ℕ
 longestWatch = watchTicks (record { 0 = 255 })

@@ -38,7 +38,6 @@ module _ (station : Station) (ok : Sound station) where
   block-sound : station .phase ≡ Participating → holds station ≡ true → Sound (blockSent station)
   block-sound e held =
       let ours : Ours (station .own) = ok .ours (rw e) in
-      let some = ours .watch-from in
       record {
         list = ok .list;
         empty = λ z. absurd (false≢true z);

@@ -32,7 +32,7 @@ pub station-to : (number : ℕ) → isStation number ≡ true → number ≤ 254
 station-to number e = leb-true number 254 (second (leb 1 number) (leb number 254) e)
 
 -- a phase that begins with an empty list
-pub fresh-sound : (phase : Phase) (own : Settings) → own .number ≤ 254 → 0 < limitOf phase (own .number) (own .watch) → hasView phase ≡ false → (isOff phase ≡ false → Ours own)
+pub fresh-sound : (phase : Phase) (own : Settings) → own .number ≤ 254 → 0 < limitOf phase (own .number) → hasView phase ≡ false → (isOff phase ≡ false → Ours own)
     → Sound (fresh phase own)
 fresh-sound phase own number some blind ours = record {
   list = empty-kept (own .number);
@@ -75,7 +75,6 @@ stop-sound station ok = switched-to Sound (stop-cases station) ok (λ on. off-so
 pub begun-sound : (own : Settings) (members : Members) (view : ℕ) → Ours own → Listed (own .number) members → isStation view ≡ true
     → Sound (begun own members view)
 begun-sound own members view ours list seen =
-    let some = ours .watch-from in
     record {
       list = list;
       empty = λ e. absurd (false≢true e);
@@ -100,7 +99,6 @@ pub restarted-sound : (station : Station) (members : Members) (view : ℕ) (gath
     → Listed (station .own .number) members → isStation view ≡ true → (eqb (gathering .source) 0 ≡ false → Placed members gathering) → Shown panel
     → Sound (restarted station members view gathering panel)
 restarted-sound station members view gathering panel ok ours list seen placed shown =
-    let some = ours .watch-from in
     record {
       list = list;
       empty = λ e. absurd (false≢true e);

@@ -1,5 +1,5 @@
 -- A tick keeps what holds in every state. Assumes nothing.
-use Rattle.laws.specs.Usual.{_≡_, refl, sym, _∙_, Bool, true, false, cond, _&&_, false≢true, _+_, _<_, _≤_, min, arith, eqb, leb, ltb}
+use Rattle.laws.specs.Usual.{_≡_, refl, sym, _∙_, Bool, true, false, cond, not, _&&_, _||_, false≢true, _+_, _<_, _≤_, min, arith, eqb, leb, ltb}
 use borrow.Author.Tests.{leb-true, leb-false, le-leb, eqb-false}
 use Rattle.laws.specs.Tests.{both, first, second}
 use Rattle.members.specs.Listing.{bare, overlapsListed}
@@ -10,11 +10,24 @@ use Rattle.station.specs.States.KeepsStarting.{ticked-shown, listening-s
 use Rattle.station.specs.States.ListKept.{missed-kept, next-station, smallest-station, bare-range, placed-with, placed-misses}
 use Rattle.station.specs.States.Reachable.{Placed, Shown, limitOf, Sound}
 use Rattle.station.specs.Rules.Starting.{requestFallen}
-use Rattle.station.specs.Rules.State.{isParticipating, nothing, counted}
+use Rattle.station.specs.Rules.State.{isOff, isParticipating, nothing, holds, counted}
 use Rattle.station.specs.Outcomes.TickCases.{TickCases, off, listens, starts, lapses, begins, givesUp, learns, waits, ends, runs, tick-cases}
-use Rattle.station.specs.Rules.Ticking.{later, fallsDue, tickOf, Ticking}
-use Rattle.station.specs.Rules.Waits.{detectionWait, acceptanceTime, numberWait, listeningTime, watchTicks, longestWatch}
+use Rattle.station.specs.Rules.Ticking.{later, fallsDue, watchTime, watchOf, tickOf, Ticking}
+use Rattle.station.specs.Rules.Waits.{detectionWait, acceptanceTime, numberWait, listeningTime, countsAs, longestWatch}
 use Rattle.station.specs.Types.{Ticks, Panel, Settings, Phase, Off, Listening, Startup, Joining, Participating, Station}
+
+-- no watch runs longer than the longest
+pub watch-within : (station : Station) → Sound station → isOff (station .phase) ≡ false → watchTime station .0 ≤ 255
+watch-within station ok on = by (holds station) (isListed (station .members) (station .view)) refl
+  where
+    ours : station .own .watch .0 ≤ 255
+    ours = ok .ours on .watch-to
+
+    by : (held listed : Bool) → isListed (station .members) (station .view) ≡ listed
+        → cond (held || not listed) (station .own .watch) (countsAs (entryOf (station .members) (station .view) .watch)) .0 ≤ 255
+    by true listed l = ours
+    by false true l = omega (arith, ok .list .each (station .view) l .watch)
+    by false false l = ours
 
 -- our own settings with both sizes 0
 abbrev bared : Settings → Settings
@@ -22,7 +35,7 @@ bared own = record { number = own .number; areas = bare (own .areas); watch = ow
 
 -- other counts of ticks, and our sizes 0 or not
 module _ (station : Station) (elapsed waited : Ticks) (panel : Panel) (ok : Sound station)
-    (below : elapsed .0 < limitOf (station .phase) (station .own .number) (station .own .watch))
+    (below : elapsed .0 < limitOf (station .phase) (station .own .number))
     (most : waited .0 ≤ numberWait (station .own .number)) (early : eqb (station .rounds) 3 ≡ false → waited .0 ≡ 0) (shown : Shown panel)
     (asked : station .sent ≡ true → requestFallen (station .phase) (counted station (station .own) elapsed waited panel) ≡ true) where
   counted-sound : Sound (counted station (station .own) elapsed waited panel)
@@ -165,8 +178,8 @@ module _ (station : Station) (ok : Sound station) where
       (eqb (station .view) (station .gathering .source)) refl)
       (ticked-shown (ok .panel))
   sound-in (runs e t) =
-      let ours = ok .ours (rw e) in
-      let more = leb-false (watchTicks (station .own .watch)) (station .elapsed .0 + 1) t in
+      let most = watch-within station ok (rw e) in
+      let more = leb-false (watchOf station) (station .elapsed .0 + 1) t in
       counted-sound station (later longestWatch (station .elapsed)) (station .waited) (ticked (station .panel)) ok (rw e (omega arith)) (ok .waited)
       (ok .unwaited) (ticked-shown (ok .panel)) (λ s. rw e)
 

@@ -16,7 +16,7 @@ use Rattle.station.specs.States.Reachable.{Entered, Listed, Placed}
 use Rattle.station.specs.Types.{Milliseconds, Areas, Entry, Members, Gathering}
 
 -- an empty list has nobody in it
-all-nobody : (k n : ℕ) → getD (replicate k nobody) n nobody ≡ nobody
+pub all-nobody : (k n : ℕ) → getD (replicate k nobody) n nobody ≡ nobody
 all-nobody zero n = refl
 all-nobody (suc k) zero = refl
 all-nobody (suc k) (suc n) = all-nobody k n

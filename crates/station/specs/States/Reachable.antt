@@ -7,8 +7,8 @@ use Rattle.frame_reading.specs.Reading.{isStation}
 use Rattle.station.specs.Rules.Calls.{Call, start, stop, tick, hear, ask, after}
 use Rattle.station.specs.Rules.Starting.{requestFallen}
 use Rattle.station.specs.Rules.State.{isOff, isParticipating, never, holds}
-use Rattle.station.specs.Rules.Waits.{detectionWait, acceptanceTime, numberWait, listeningTime, watchTicks}
-use Rattle.station.specs.Types.{Milliseconds, Part, Entry, Members, Panel, Settings, Phase, Off, Listening, Startup, Joining, Participating, Gathering, Station}
+use Rattle.station.specs.Rules.Waits.{detectionWait, acceptanceTime, numberWait, listeningTime, longestWatch}
+use Rattle.station.specs.Types.{Part, Entry, Members, Panel, Settings, Phase, Off, Listening, Startup, Joining, Participating, Gathering, Station}
 
 -- an address and a size of 16 bits
 pub record TypedPart (part : Part) : Type 0 where
@@ -91,12 +91,12 @@ hasView Joining = true
 hasView Participating = true
 
 -- the count of ticks stays below this, in each phase
-abbrev pub limitOf : Phase → ℕ → Milliseconds → ℕ
-limitOf Off number watch = 1
-limitOf Listening number watch = listeningTime number + 1
-limitOf Startup number watch = acceptanceTime
-limitOf Joining number watch = detectionWait
-limitOf Participating number watch = watchTicks watch
+abbrev pub limitOf : Phase → ℕ → ℕ
+limitOf Off number = 1
+limitOf Listening number = listeningTime number + 1
+limitOf Startup number = acceptanceTime
+limitOf Joining number = detectionWait
+limitOf Participating number = longestWatch
 
 -- what holds in every state that calls can leave
 pub record Sound (station : Station) : Type 0 where
@@ -110,8 +110,8 @@ pub record Sound (station : Station) : Type 0 where
   pub ours : isOff (station .phase) ≡ false → Ours (station .own)
   -- at most three rounds are counted
   pub rounds : station .rounds ≤ 3
-  -- ticks are counted up to what ends them; for a participant up to its watch
-  pub elapsed : station .elapsed .0 < limitOf (station .phase) (station .own .number) (station .own .watch)
+  -- ticks are counted up to what ends them; for a participant no watch is longer
+  pub elapsed : station .elapsed .0 < limitOf (station .phase) (station .own .number)
   -- the wait for our number is counted to its end
   pub waited : station .waited .0 ≤ numberWait (station .own .number)
   -- and not before the third round has ended

@@ -10,13 +10,13 @@ calm-in-requires c κs = search needs
 counts-after-requires : tie.Need-counts-after-requires
 counts-after-requires c κs = search needs
 
-sub-t10 : tie.Need-sub-t10
-sub-t10 c =
+sub-ticks : tie.Need-sub-ticks
+sub-ticks c =
     let a = c .before .before .before .before .args in
-    omega (arith, c .before .calm-in .ensures, calm-few (a .phase) (a .own) (a .rounds) (a .counts .elapsed) (a .counts .waited) (a .count))
+    omega (arith, c .before .calm-in .ensures, calm-few (a .phase) (a .number) (a .time) (a .rounds) (a .counts .elapsed) (a .counts .waited) (a .count))
 
 returns : tie.Need-returns
 returns c = rw (c .counts-after .ensures, c .before .calm-in .ensures)
 
 pub skip-spec : {M : Type 1} → statement M
-skip-spec = tie.close (tie.spec calm-in-requires counts-after-requires sub-t10 returns)
+skip-spec = tie.close (tie.spec calm-in-requires counts-after-requires sub-ticks returns)

@@ -7,14 +7,19 @@ use Rattle.ticking_many.proofs.jump.Tie as tie
 is-alone-requires : tie.Need-is-alone-requires
 is-alone-requires c κs = search needs
 
+watch-time-requires : tie.Need-watch-time-requires
+watch-time-requires c κs = search needs
+
 jump-requires : tie.Need-jump-requires
 jump-requires c κs = search needs
 
 returns : tie.Need-returns
 returns c =
-    let start = c .before .before .before .before .before .before .before .before .before .before .before .before .before in
+    let called = c .before .before .before .before .before .before .before in
+    let start = called .before .before .before .before .before .before .before in
     let few : start .args .station .own .watch .0 < 256 = omega (arith, start .good .0) in
-    rw (c .before .before .before .before .before .before .before .jump .ensures, c .before .before .before .before .before .before .before .before .is-alone .ensures) (jump-ticks (start .args .station) (start .args .count) few)
+    rw (called .jump .ensures, called .before .watch-time .ensures, called .before .before .is-alone .ensures)
+    (jump-ticks (start .args .station) (start .args .count) few)
 
 pub jump-spec : {M : Type 1} → statement M
-jump-spec = tie.close (tie.spec is-alone-requires jump-requires returns)
+jump-spec = tie.close (tie.spec is-alone-requires watch-time-requires jump-requires returns)

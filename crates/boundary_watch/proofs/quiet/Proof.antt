@@ -1,7 +1,7 @@
--- `boundary_participant::quiet` meets its contract.
+-- `boundary_watch::quiet` meets its contract.
 use borrow.Author.Needs.{needs}
-use Rattle.boundary_participant.proofs.quiet.Statement.{statement}
-use Rattle.boundary_participant.proofs.quiet.Tie as tie
+use Rattle.boundary_watch.proofs.quiet.Statement.{statement}
+use Rattle.boundary_watch.proofs.quiet.Tie as tie
 
 longest-watch-requires : tie.Need-longest-watch-requires
 longest-watch-requires c κs = search needs

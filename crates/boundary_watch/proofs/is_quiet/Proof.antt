@@ -1,7 +1,7 @@
--- `boundary_participant::is_quiet` meets its contract.
+-- `boundary_watch::is_quiet` meets its contract.
 use borrow.Author.Needs.{needs}
-use Rattle.boundary_participant.proofs.is_quiet.Statement.{statement}
-use Rattle.boundary_participant.proofs.is_quiet.Tie as tie
+use Rattle.boundary_watch.proofs.is_quiet.Statement.{statement}
+use Rattle.boundary_watch.proofs.is_quiet.Tie as tie
 
 watch-ends-requires : tie.Need-watch-ends-requires
 watch-ends-requires c κs = search needs
