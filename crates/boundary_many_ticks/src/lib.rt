@@ -135,6 +135,6 @@ pub fn ticks(
     }
     Outcome {
         core: count_on(after, left),
-        answer: ticked_answer(ticking::answer_in(phase_of(core.phase))),
+        answer: ticked_answer(ticking_answer::answer_in(phase_of(core.phase))),
     }
 }

@@ -37,7 +37,7 @@ pub fn quiet_ticks(core: Core, listed: &[bool; 256], watch: &[u8; 256]) -> Quiet
     let number = core.own.number;
     let view = core.view;
     let time = boundary_watch::watch_time(core, listed, watch);
-    let left = ticking_calm::left_in(phase, number, time, core.sent, core.rounds, elapsed, waited);
+    let left = ticking_left::left_in(phase, number, time, core.sent, core.rounds, elapsed, waited);
     match phase {
         Phase::Off => unless(true, left),
         Phase::Listening => unless(waits::listening_time(number).0 <= elapsed.0, left),

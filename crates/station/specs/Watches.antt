@@ -2,7 +2,7 @@
 -- nothing.
 use Rattle.laws.specs.Usual.{_≡_, refl, true, [], ℕ, _+_}
 use Rattle.frame_reading.specs.Reading.{fieldsOf}
-use Rattle.frame_round_trip.specs.Sent.{requestFields}
+use Rattle.frame_round_trip.specs.Sent.{blockFields, requestFields}
 use Rattle.frame_writing.specs.Writing.{noAreas, frameOf, headerOf, frontOf, backOf, fixedFor}
 use Rattle.members.specs.Listing.{listing}
 use Rattle.members.specs.Members.{noMembers, withEntry}
@@ -46,6 +46,11 @@ held-and-listed = (refl, refl)
 -- "or it isn't listed": 9 is in view
 not-listed : EndsIn (watching 2 1 9) 19 9 1
 not-listed = (refl, refl)
+
+-- not for the time of the frame's source: station 3, whose time is 4 ms, passes the token to itself, and 2 stays in view
+another-sends : EndsIn (hears (watching 3 2 2) (frameOf (blockFields 3 3 noAreas (record { 0 = 4 }) 1) []) zeros .station) 19 2 3
+unfolding headerOf frontOf backOf fixedFor fieldsOf
+another-sends = (refl, refl)
 
 -- the station after so many ticks, and then a request of a station with a time
 abbrev requested : ℕ → ℕ → ℕ → Station → Station

@@ -15,7 +15,7 @@ ghost use Rattle.members.specs.Members.{numbersOf, isListed, strikes};
 ghost use Rattle.station.specs.Rules.Data.{without as withoutOf};
 ghost use Rattle.station.specs.Rules.Starting.{startedUp};
 ghost use Rattle.station.specs.Rules.State.{counted};
-ghost use Rattle.station.specs.Rules.Ticking.{fallsDue, startupTick, joiningTick, watchEnded, participantTick, tickedBy, tickAnswer, tickOf};
+ghost use Rattle.station.specs.Rules.Ticking.{fallsDue, startupTick, joiningTick, watchEnded, participantTick, tickedBy, tickOf};
 ghost use Rattle.station.specs.declared.Phase.the-variants as phases;
 
 // A call of tick: the state after it, and the answer.
@@ -165,25 +165,12 @@ fn tick_on(station: Station) -> Station
     }
 }
 
-// What a tick is answered.
-pub fn answer_in(phase: Phase) -> Ticked
-    ensures { λ r. ⌜ r ≡ tickAnswer phase ⌝ }
-{
-    match phase {
-        Phase::Off => Ticked::Off,
-        Phase::Listening => Ticked::Done,
-        Phase::Startup => Ticked::Done,
-        Phase::Joining => Ticked::Done,
-        Phase::Participating => Ticked::Done,
-    }
-}
-
 pub fn tick(station: Station) -> Ticking
     ensures { λ r. ⌜ r .station ≡ tickOf station .station ⌝ }
     ensures { λ r. ⌜ r .answer ≡ tickOf station .answer ⌝ }
 {
     let phase = station.phase;
-    let answer = answer_in(phase);
+    let answer = ticking_answer::answer_in(phase);
     Ticking {
         station: tick_on(station),
         answer,

@@ -67,7 +67,7 @@ pub fn ticks(station: Station, count: u32) -> Ticking
     ensures { λ r. ⌜ r .answer ≡ ticksOf count station .answer ⌝ }
 {
     let phase = station.phase;
-    let answer = ticking::answer_in(phase);
+    let answer = ticking_answer::answer_in(phase);
     let mut after = station;
     let mut left = count;
     while 0 < left {

@@ -4,49 +4,49 @@ use Rattle.ticking_calm.proofs.counts_after.Statement.{statement}
 use Rattle.ticking_calm.proofs.counts_after.Tie as tie
 
 enum-told : tie.Need-enum-told
-enum-told c = search needs
+enum-told c = c .match .keys1
 
 enum-told-2 : tie.Need-enum-told-2
-enum-told-2 c = search needs
+enum-told-2 c = c .match .keys2
 
 listening-time-requires : tie.Need-listening-time-requires
-listening-time-requires c κs = search needs
+listening-time-requires c κs = tt
 
 later-by-requires : tie.Need-later-by-requires
-later-by-requires c κs = search needs
+later-by-requires c κs = tt
 
 enum-told-3 : tie.Need-enum-told-3
-enum-told-3 c = search needs
+enum-told-3 c = c .match .keys3
 
 acceptance-time-requires : tie.Need-acceptance-time-requires
-acceptance-time-requires c κs = search needs
+acceptance-time-requires c κs = tt
 
 later-by-requires-2 : tie.Need-later-by-requires-2
-later-by-requires-2 c κs = search needs
+later-by-requires-2 c κs = tt
 
 enum-told-4 : tie.Need-enum-told-4
-enum-told-4 c = search needs
+enum-told-4 c = c .match .keys4
 
 detection-wait-requires : tie.Need-detection-wait-requires
-detection-wait-requires c κs = search needs
+detection-wait-requires c κs = tt
 
 later-by-requires-3 : tie.Need-later-by-requires-3
-later-by-requires-3 c κs = search needs
+later-by-requires-3 c κs = tt
 
 waited-by-requires : tie.Need-waited-by-requires
-waited-by-requires c κs = search needs
+waited-by-requires c κs = tt
 
 enum-told-5 : tie.Need-enum-told-5
-enum-told-5 c = search needs
+enum-told-5 c = c .match .keys5
 
 longest-watch-requires : tie.Need-longest-watch-requires
-longest-watch-requires c κs = search needs
+longest-watch-requires c κs = tt
 
 later-by-requires-4 : tie.Need-later-by-requires-4
-later-by-requires-4 c κs = search needs
+later-by-requires-4 c κs = tt
 
 panel-by-requires : tie.Need-panel-by-requires
-panel-by-requires c κs = search needs
+panel-by-requires c κs = tt
 
 returns : tie.Need-returns
 returns c = rw (c .enum-told .given .1)

@@ -5,7 +5,7 @@ use Rattle.ticking_calm.proofs.panel_by.Statement.{statement}
 use Rattle.ticking_calm.proofs.panel_by.Tie as tie
 
 later-by-requires : tie.Need-later-by-requires
-later-by-requires c κs = search needs
+later-by-requires c κs = tt
 
 returns : tie.Need-returns
 returns c = rw (c .before .later-by .ensures) (sym (ticked-by (c .before .before .before .args .count) (c .before .before .before .args .panel)))

@@ -5,10 +5,10 @@ use Rattle.ticking_calm.proofs.waited_by.Statement.{statement}
 use Rattle.ticking_calm.proofs.waited_by.Tie as tie
 
 number-wait-requires : tie.Need-number-wait-requires
-number-wait-requires c κs = search needs
+number-wait-requires c κs = tt
 
 later-by-requires : tie.Need-later-by-requires
-later-by-requires c κs = search needs
+later-by-requires c κs = tt
 
 returns : tie.Need-returns
 returns c = c .later-by .ensures ∙ rw (c .before .number-wait .ensures, eq-eqb _ _ (c .before .before .if1 .taken))

@@ -1,40 +1,40 @@
--- `ticking_calm::left_in` meets its contract.
+-- `ticking_left::left_in` meets its contract.
 use borrow.Author.Needs.{needs}
-use Rattle.ticking_calm.proofs.left_in.Statement.{statement}
-use Rattle.ticking_calm.proofs.left_in.Tie as tie
+use Rattle.ticking_left.proofs.left_in.Statement.{statement}
+use Rattle.ticking_left.proofs.left_in.Tie as tie
 
 enum-told : tie.Need-enum-told
-enum-told c = search needs
+enum-told c = c .match .keys1
 
 enum-told-2 : tie.Need-enum-told-2
-enum-told-2 c = search needs
+enum-told-2 c = c .match .keys2
 
 listening-time-requires : tie.Need-listening-time-requires
-listening-time-requires c κs = search needs
+listening-time-requires c κs = tt
 
 before-requires : tie.Need-before-requires
-before-requires c κs = search needs
+before-requires c κs = tt
 
 enum-told-3 : tie.Need-enum-told-3
-enum-told-3 c = search needs
+enum-told-3 c = c .match .keys3
 
 startup-left-requires : tie.Need-startup-left-requires
-startup-left-requires c κs = search needs
+startup-left-requires c κs = tt
 
 enum-told-4 : tie.Need-enum-told-4
-enum-told-4 c = search needs
+enum-told-4 c = c .match .keys4
 
 joining-left-requires : tie.Need-joining-left-requires
-joining-left-requires c κs = search needs
+joining-left-requires c κs = tt
 
 enum-told-5 : tie.Need-enum-told-5
-enum-told-5 c = search needs
+enum-told-5 c = c .match .keys5
 
 watch-ticks-requires : tie.Need-watch-ticks-requires
-watch-ticks-requires c κs = search needs
+watch-ticks-requires c κs = tt
 
 before-requires-2 : tie.Need-before-requires-2
-before-requires-2 c κs = search needs
+before-requires-2 c κs = tt
 
 returns : tie.Need-returns
 returns c = search needs

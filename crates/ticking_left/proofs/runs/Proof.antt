@@ -1,10 +1,10 @@
--- `ticking_calm::runs` meets its contract.
+-- `ticking_left::runs` meets its contract.
 use borrow.Author.Needs.{needs}
-use Rattle.ticking_calm.proofs.runs.Statement.{statement}
-use Rattle.ticking_calm.proofs.runs.Tie as tie
+use Rattle.ticking_left.proofs.runs.Statement.{statement}
+use Rattle.ticking_left.proofs.runs.Tie as tie
 
 number-wait-requires : tie.Need-number-wait-requires
-number-wait-requires c κs = search needs
+number-wait-requires c κs = tt
 
 returns : tie.Need-returns
 returns c = rw (c .before .before .number-wait .ensures)

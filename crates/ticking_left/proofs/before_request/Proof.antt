@@ -1,10 +1,10 @@
--- `ticking_calm::before_request` meets its contract.
+-- `ticking_left::before_request` meets its contract.
 use Rattle.laws.specs.Usual.{_∙_, needs}
-use Rattle.ticking_calm.proofs.before_request.Statement.{statement}
-use Rattle.ticking_calm.proofs.before_request.Tie as tie
+use Rattle.ticking_left.proofs.before_request.Statement.{statement}
+use Rattle.ticking_left.proofs.before_request.Tie as tie
 
 least-requires : tie.Need-least-requires
-least-requires c κs = search needs
+least-requires c κs = tt
 
 returns : tie.Need-returns
 returns c = c .least .ensures ∙ rw (c .before .if1 .taken)

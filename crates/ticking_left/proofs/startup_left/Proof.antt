@@ -1,25 +1,25 @@
--- `ticking_calm::startup_left` meets its contract.
+-- `ticking_left::startup_left` meets its contract.
 use borrow.Author.Needs.{needs}
-use Rattle.ticking_calm.proofs.startup_left.Statement.{statement}
-use Rattle.ticking_calm.proofs.startup_left.Tie as tie
+use Rattle.ticking_left.proofs.startup_left.Statement.{statement}
+use Rattle.ticking_left.proofs.startup_left.Tie as tie
 
 runs-requires : tie.Need-runs-requires
-runs-requires c κs = search needs
+runs-requires c κs = tt
 
 number-wait-requires : tie.Need-number-wait-requires
-number-wait-requires c κs = search needs
+number-wait-requires c κs = tt
 
 before-requires : tie.Need-before-requires
-before-requires c κs = search needs
+before-requires c κs = tt
 
 acceptance-time-requires : tie.Need-acceptance-time-requires
-acceptance-time-requires c κs = search needs
+acceptance-time-requires c κs = tt
 
 before-requires-2 : tie.Need-before-requires-2
-before-requires-2 c κs = search needs
+before-requires-2 c κs = tt
 
 before-request-requires : tie.Need-before-request-requires
-before-request-requires c κs = search needs
+before-request-requires c κs = tt
 
 returns : tie.Need-returns
 returns c = rw (c .before-request .ensures, c .before .before3 .ensures, c .before .before .acceptance-time .ensures, c .before .before .before .before2 .ensures, c .before .before .before .before .number-wait .ensures, c .before .before .before .before .before .runs .ensures)
