@@ -56,7 +56,7 @@ enters Participating Trigger station frame = station
 abbrev pub entersAnswer : Phase → Code → Heard
 entersAnswer phase code = cond (isOff phase) answers.Off (cond (isCyclic code) (answers.Cyclic (tokens.None Dropped)) answers.Done)
 
--- "Every accepted cyclic frame restarts our watch, at our own watch time, and clears the source's misses."
+-- "Every accepted cyclic frame restarts our watch .. and clears the source's misses." (How long it then runs: `watchTime` in Ticking.)
 abbrev pub participantHeard : Station → Fields → Gathered → Hearing
 participantHeard station frame after = record {
   station =
