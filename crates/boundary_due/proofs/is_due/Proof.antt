@@ -1,37 +1,37 @@
--- `boundary_refused::is_due` meets its contract.
-use Rattle.laws.specs.Usual.{sym, _∙_, needs}
-use Rattle.boundary_refused.proofs.is_due.Statement.{statement}
-use Rattle.boundary_refused.proofs.is_due.Tie as tie
+-- `boundary_due::is_due` meets its contract.
+use Rattle.laws.specs.Usual.{sym, _∙_}
+use Rattle.boundary_due.proofs.is_due.Statement.{statement}
+use Rattle.boundary_due.proofs.is_due.Tie as tie
 
 phase-of-requires : tie.Need-phase-of-requires
-phase-of-requires c κs = search needs
+phase-of-requires c κs = tt
 
 enum-told : tie.Need-enum-told
-enum-told c = search needs
+enum-told c = c .match .keys1
 
 enum-told-2 : tie.Need-enum-told-2
-enum-told-2 c = search needs
+enum-told-2 c = c .match .keys2
 
 listening-time-requires : tie.Need-listening-time-requires
-listening-time-requires c κs = search needs
+listening-time-requires c κs = tt
 
 enum-told-3 : tie.Need-enum-told-3
-enum-told-3 c = search needs
+enum-told-3 c = c .match .keys3
 
 number-wait-requires : tie.Need-number-wait-requires
-number-wait-requires c κs = search needs
+number-wait-requires c κs = tt
 
 enum-told-4 : tie.Need-enum-told-4
-enum-told-4 c = search needs
+enum-told-4 c = c .match .keys4
 
 number-wait-requires-2 : tie.Need-number-wait-requires-2
-number-wait-requires-2 c κs = search needs
+number-wait-requires-2 c κs = tt
 
 enum-told-5 : tie.Need-enum-told-5
-enum-told-5 c = search needs
+enum-told-5 c = c .match .keys5
 
 is-placed-requires : tie.Need-is-placed-requires
-is-placed-requires c κs = search needs
+is-placed-requires c κs = tt
 
 returns : tie.Need-returns
 returns c = rw (sym (c .before .before .before .before .before .phase-of .ensures) ∙ c .enum-told .given .1)

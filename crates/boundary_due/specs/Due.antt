@@ -1,7 +1,6 @@
--- Whether a frame is due, told by the core alone, since no rule for it looks at the list; and what a refused asking leaves of a core. Assumes
--- nothing.
+-- Whether a frame is due, told by the core alone, since no rule for it looks at the list, and why an asking is refused. Assumes nothing.
 use Rattle.laws.specs.Usual.{_≡_, refl, sym, Bool, true, false, cond, _&&_, false≢true, List, ℕ}
-use Rattle.boundary_core.specs.Crossing.{phaseOf, stationOf, coreOf}
+use Rattle.boundary_core.specs.Crossing.{phaseOf, stationOf}
 use Rattle.boundary_core.specs.declared.Core.{Core}
 use Rattle.frame.specs.declared.Refusal.the-variants.{NotDue, Buffer}
 use Rattle.members.specs.Members.{noMembers}
@@ -12,10 +11,6 @@ use Rattle.station.specs.declared.Phase.the-variants.{Off, Listening, Startup, 
 
 abbrev pub dueCore : Core → Bool
 dueCore core = dueIn (phaseOf (core .phase)) (stationOf core noMembers)
-
--- what a refused call leaves of a core: a number that is no phase's has become that of off
-abbrev pub keptCore : Core → Core
-keptCore core = coreOf (stationOf core noMembers)
 
 -- why an asking is refused: 11 before 10
 abbrev pub askRefusal : Bool → Refusal

@@ -1,14 +1,14 @@
--- `panel::gap_text` meets its contract.
-use Rattle.laws.specs.Usual.{sym, _∙_, needs}
+-- `panel_text::gap_text` meets its contract.
+use Rattle.laws.specs.Usual.{sym, _∙_}
 use borrow.Author.Tests.{ltb-false}
-use Rattle.panel.proofs.gap_text.Statement.{statement}
-use Rattle.panel.proofs.gap_text.Tie as tie
+use Rattle.panel_text.proofs.gap_text.Statement.{statement}
+use Rattle.panel_text.proofs.gap_text.Tie as tie
 
 is-over-requires : tie.Need-is-over-requires
-is-over-requires c κs = search needs
+is-over-requires c κs = tt
 
 over-text-requires : tie.Need-over-text-requires
-over-text-requires c κs = search needs
+over-text-requires c κs = tt
 
 tenths-text-requires : tie.Need-tenths-text-requires
 tenths-text-requires c κs = ltb-false _ _ (sym (c .before .is-over .ensures) ∙ c .if1 .left)

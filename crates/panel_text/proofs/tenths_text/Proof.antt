@@ -1,4 +1,4 @@
--- `panel::tenths_text` meets its contract.
+-- `panel_text::tenths_text` meets its contract.
 use Rattle.laws.specs.Usual.{_≡_, ap, ap₂, _∙_, List, [], _∷_, _++_, ℕ, _+_, _/_, _%_, _≤_, arith, length, set, replicate, needs}
 use lib.ListN.{length-append, length-set}
 use lib.Seq.{append-snoc}
@@ -6,9 +6,9 @@ use Rattle.copying.specs.Laws.{paste-more, paste-append}
 use Rattle.copying.specs.Pasted.{pasted}
 use Rattle.text.specs.Decimal.{decimalOf}
 use Rattle.text.specs.Digits.{one-digit}
-use Rattle.panel.specs.Texts.{four-digits, six}
-use Rattle.panel.proofs.tenths_text.Statement.{statement}
-use Rattle.panel.proofs.tenths_text.Tie as tie
+use Rattle.panel_text.specs.Six.{four-digits, six}
+use Rattle.panel_text.proofs.tenths_text.Statement.{statement}
+use Rattle.panel_text.proofs.tenths_text.Tie as tie
 
 abbrev zeros : List ℕ
 zeros = replicate 16 0

@@ -1,8 +1,8 @@
--- `panel::text_of` meets its contract.
+-- `panel_text::text_of` meets its contract.
 use Rattle.laws.specs.Usual.{sym, ap, _∙_, needs}
 use Rattle.panel.specs.Panel.{shown}
-use Rattle.panel.proofs.text_of.Statement.{statement}
-use Rattle.panel.proofs.text_of.Tie as tie
+use Rattle.panel_text.proofs.text_of.Statement.{statement}
+use Rattle.panel_text.proofs.text_of.Tie as tie
 
 enum-told : tie.Need-enum-told
 enum-told c = search needs
@@ -11,13 +11,13 @@ enum-told-2 : tie.Need-enum-told-2
 enum-told-2 c = search needs
 
 over-text-requires : tie.Need-over-text-requires
-over-text-requires c κs = search needs
+over-text-requires c κs = tt
 
 enum-known-figure : tie.Need-enum-known-figure
 enum-known-figure c = search needs
 
 gap-text-requires : tie.Need-gap-text-requires
-gap-text-requires c κs = search needs
+gap-text-requires c κs = tt
 
 returns : tie.Need-returns
 returns c = rw (c .enum-told .given .1)
