@@ -98,8 +98,8 @@ pub fn ask(
             output,
         );
     }
-    if !(lent & boundary_refused::is_due(state)) {
-        return boundary_core::refused(boundary_refused::ask_refusal(lent));
+    if !(lent & boundary_due::is_due(state)) {
+        return boundary_core::refused(boundary_due::ask_refusal(lent));
     }
     ask_bare(core, state, listed, areas, watch, misses, output)
 }

@@ -6,7 +6,7 @@ use Rattle.block.specs.Blocks.{startOf}
 use Rattle.boundary_core.specs.Crossing.{phaseOf, stationOf}
 use Rattle.boundary_core.specs.declared.Core.{Core}
 use Rattle.boundary_participant.specs.Quick.{holdsBlock}
-use Rattle.boundary_refused.specs.Due.{dueCore}
+use Rattle.boundary_due.specs.Due.{dueCore}
 use Rattle.boundary_requesting.specs.Requesting.{isRequesting, requestOf, afterRequest, request-asked}
 use Rattle.frame_round_trip.specs.Sent.{triggerFields}
 use Rattle.frame_writing.specs.Writing.{wholeLength, outputOf}

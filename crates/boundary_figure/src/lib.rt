@@ -50,7 +50,7 @@ fn ticks_of(figure: Figure) -> u16
 pub fn figure_shown(figure: Figure) -> Shown
     ensures { λ r. ⌜ r ≡ figureNumbers figure ⌝ }
 {
-    let text = panel::text_of(figure);
+    let text = panel_text::text_of(figure);
     let octets = text.octets;
     Shown {
         kind: kind_of(figure),

@@ -1,5 +1,5 @@
--- Calls that are refused, on the core alone: an asking, and a frame by its header, its number, its areas and block, or as a stranger's.
-pub mod Due
+-- Frames that are refused, on the core alone: by the header, the number, the areas and the block, or as a stranger's.
+pub mod Kept
 pub mod Unheard
 pub mod Taken
 pub mod Strange

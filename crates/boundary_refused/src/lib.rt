@@ -1,43 +1,14 @@
-// Calls that are refused, on the core alone: whether a frame is due, why a call is refused, and a core that nothing alters.
+// Frames that are refused, on the core alone, and a core that nothing alters.
 use boundary_core::Core;
 use boundary_core::phase_number;
 use boundary_core::phase_of;
 use frame::Fields;
 use frame::Refusal;
-use station::Phase;
 ghost use Rattle.laws.specs.Usual.{_≡_};
-ghost use Rattle.boundary_refused.specs.Due.{dueCore, keptCore, askRefusal};
+ghost use Rattle.boundary_refused.specs.Kept.{keptCore};
 ghost use Rattle.boundary_refused.specs.Unheard.{heardRefusal};
 ghost use Rattle.boundary_refused.specs.Taken.{isTakenBy};
 ghost use Rattle.boundary_refused.specs.Strange.{isStrange};
-
-pub fn is_due(core: Core) -> bool
-    ensures { λ r. ⌜ r ≡ dueCore core ⌝ }
-{
-    let phase = phase_of(core.phase);
-    let own = core.own;
-    let elapsed = core.elapsed;
-    let waited = core.waited;
-    match phase {
-        Phase::Off => false,
-        Phase::Listening => waits::listening_time(own.number).0 <= elapsed.0,
-        Phase::Startup => (waits::number_wait(own.number).0 <= elapsed.0) & !core.sent,
-        Phase::Joining => (core.rounds == 3) & (waits::number_wait(own.number).0 <= waited.0),
-        Phase::Participating => (core.view == own.number)
-            & asking_placing::is_placed(own, core.block),
-    }
-}
-
-// 11 before 10.
-pub fn ask_refusal(lent: bool) -> Refusal
-    ensures { λ r. ⌜ r ≡ askRefusal lent ⌝ }
-{
-    if lent {
-        Refusal::NotDue
-    } else {
-        Refusal::Buffer
-    }
-}
 
 // 11 before those of the frame.
 pub fn heard_refusal(lent: bool, refusal: Refusal) -> Refusal

@@ -5,7 +5,7 @@ use Rattle.asking_bare.specs.Bare.{no-data}
 use Rattle.block.specs.Blocks.{startOf}
 use Rattle.boundary_core.specs.Crossing.{phaseOf, stationOf, coreOf, isIn}
 use Rattle.boundary_core.specs.declared.Core.{Core}
-use Rattle.boundary_refused.specs.Due.{dueCore}
+use Rattle.boundary_due.specs.Due.{dueCore}
 use Rattle.frame_round_trip.specs.Sent.{requestFields}
 use Rattle.frame_writing.specs.Writing.{wholeLength, outputOf}
 use Rattle.members.specs.Members.{noMembers}

@@ -10,7 +10,7 @@ ghost use mathlib.Core.Path.{_≡_};
 ghost use Rattle.boundary_core.specs.Crossing.{coreOf, stationIn};
 ghost use Rattle.boundary_answers.specs.Numbers.{switchedAnswer, refusedAnswer};
 ghost use Rattle.boundary_lists.specs.Lists.{membersIn};
-ghost use Rattle.boundary_refused.specs.Due.{keptCore};
+ghost use Rattle.boundary_refused.specs.Kept.{keptCore};
 ghost use Rattle.station.specs.Rules.Starting.{startOf, stopOf};
 
 fn refuse(core: Core, refusal: Refusal) -> Outcome

@@ -1,42 +1,20 @@
 -- Laws of the panel's text. Assumes nothing.
-use Rattle.laws.specs.Usual.{_≡_, refl, List, [], _∷_, _++_, ℕ, _-_, _<_, _≤_, arith, length, getD, take, replicate}
+use Rattle.laws.specs.Usual.{_≡_, refl, [], _∷_, _-_, length, take, replicate}
 use lib.Seq.{take-append-seam}
-use Rattle.copying.specs.Pasted.{pasted}
-use Rattle.text.specs.Decimal.{decimalOf}
-use Rattle.text.specs.Digits.{at-most, one-more}
+use Rattle.text.specs.Decimal.{decimalAt}
 use Rattle.panel.specs.Panel.{textOf, shown}
 use Rattle.panel.specs.declared.Figure.{Figure}
+use Rattle.panel.specs.declared.Figure.the-variants.{Gap}
+
+-- "63 shows `6.3`, 5 shows `0.5`"
+pub sixty-three : textOf (Gap (record { 0 = 63 })) ≡ 0x36 ∷ 0x2e ∷ 0x33 ∷ []
+unfolding decimalAt
+sixty-three = refl
+
+pub five : textOf (Gap (record { 0 = 5 })) ≡ 0x30 ∷ 0x2e ∷ 0x35 ∷ []
+unfolding decimalAt
+five = refl
 
 -- the octets that are shown are the text
 pub shown-text : (figure : Figure) → take (shown figure .length) (shown figure .octets) ≡ textOf figure
 shown-text figure = take-append-seam (textOf figure) (replicate (6 - length (textOf figure)) 0)
-
-pub four-digits : (number : ℕ) → number < 10000 → length (decimalOf number) ≤ 4
-four-digits number h =
-    rw (
-      one-more 8 number (omega arith),
-      one-more 7 number (omega arith),
-      one-more 6 number (omega arith),
-      one-more 5 number (omega arith),
-      one-more 4 number (omega arith),
-      one-more 3 number (omega arith),
-    ) (at-most 4 number)
-
--- the six octets in front of a buffer of zeros that a text was put into
-pub six : (text : List ℕ) → length text ≤ 6
-    → getD (pasted (replicate 16 0) 0 text) 0 0
-    ∷ getD (pasted (replicate 16 0) 0 text) 1 0
-    ∷ getD (pasted (replicate 16 0) 0 text) 2 0
-    ∷ getD (pasted (replicate 16 0) 0 text) 3 0
-    ∷ getD (pasted (replicate 16 0) 0 text) 4 0
-    ∷ getD (pasted (replicate 16 0) 0 text) 5 0
-    ∷ []
-    ≡ text ++ replicate (6 - length text) 0
-six [] h = refl
-six (a ∷ []) h = refl
-six (a ∷ b ∷ []) h = refl
-six (a ∷ b ∷ c ∷ []) h = refl
-six (a ∷ b ∷ c ∷ d ∷ []) h = refl
-six (a ∷ b ∷ c ∷ d ∷ e ∷ []) h = refl
-six (a ∷ b ∷ c ∷ d ∷ e ∷ f ∷ []) h = refl
-six (a ∷ b ∷ c ∷ d ∷ e ∷ f ∷ g ∷ rest) h = absurd (omega arith)

@@ -13,7 +13,7 @@ pub fn put_panel(figure: Figure, output: &mut [u8]) -> usize
     ensures { λ r. ⌜ r ≡ length (panelText figure) ⌝ }
     ensures { λ _. ⌜ now (output .exit) ≡ pasted (now (output .entry)) 0 (panelText figure) ⌝ }
 {
-    let text = panel::text_of(figure);
+    let text = panel_text::text_of(figure);
     let octets = text.octets;
     let length = text.length;
     put_line(&octets[0..length], output)

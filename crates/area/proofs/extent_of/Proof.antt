@@ -1,11 +1,11 @@
 -- `area::extent_of` meets its contract.
-use Rattle.laws.specs.Usual.{arith, needs}
+use Rattle.laws.specs.Usual.{arith}
 use Rattle.area.proofs.Table.{place-below}
 use Rattle.area.proofs.extent_of.Statement.{statement}
 use Rattle.area.proofs.extent_of.Tie as tie
 
 place-requires : tie.Need-place-requires
-place-requires c κs = search needs
+place-requires c κs = tt
 
 mul-result : tie.Need-mul-result
 mul-result c = omega (arith, place-below (c .before .args .area))

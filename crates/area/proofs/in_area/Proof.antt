@@ -4,7 +4,7 @@ use Rattle.area.proofs.in_area.Statement.{statement}
 use Rattle.area.proofs.in_area.Tie as tie
 
 extent-of-requires : tie.Need-extent-of-requires
-extent-of-requires c κs = search needs
+extent-of-requires c κs = tt
 
 cast-result : tie.Need-cast-result
 cast-result c = search needs

@@ -1,13 +1,13 @@
 -- `area::in_range` meets its contract.
-use Rattle.laws.specs.Usual.{ap₂, _&&_, needs}
+use Rattle.laws.specs.Usual.{ap₂, _&&_}
 use Rattle.area.proofs.in_range.Statement.{statement}
 use Rattle.area.proofs.in_range.Tie as tie
 
 in-area-requires : tie.Need-in-area-requires
-in-area-requires c κs = search needs
+in-area-requires c κs = tt
 
 in-area-requires-2 : tie.Need-in-area-requires-2
-in-area-requires-2 c κs = search needs
+in-area-requires-2 c κs = tt
 
 returns : tie.Need-returns
 returns c = ap₂ _&&_ (c .before .in-area .ensures) (c .in-area2 .ensures)

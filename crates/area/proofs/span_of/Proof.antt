@@ -6,7 +6,7 @@ use Rattle.area.proofs.span_of.Statement.{statement}
 use Rattle.area.proofs.span_of.Tie as tie
 
 extent-of-requires : tie.Need-extent-of-requires
-extent-of-requires c κs = search needs
+extent-of-requires c κs = tt
 
 cast-t4 : tie.Need-cast-t4
 cast-t4 c = search needs

@@ -5,10 +5,10 @@ use Rattle.asking.proofs.ask.Statement.{statement}
 use Rattle.asking.proofs.ask.Tie as tie
 
 is-lent-right-requires : tie.Need-is-lent-right-requires
-is-lent-right-requires c κs = search needs
+is-lent-right-requires c κs = tt
 
 refused-requires : tie.Need-refused-requires
-refused-requires c κs = search needs
+refused-requires c κs = tt
 
 same-length : tie.Need-same-length
 same-length c = search needs
@@ -22,10 +22,10 @@ returns c =
     rw wrong (c .refused .ensures .0, (c .refused .ensures .1, (refl, refl)))
 
 is-due-requires : tie.Need-is-due-requires
-is-due-requires c κs = search needs
+is-due-requires c κs = tt
 
 refused-requires-2 : tie.Need-refused-requires-2
-refused-requires-2 c κs = search needs
+refused-requires-2 c κs = tt
 
 same-length-3 : tie.Need-same-length-3
 same-length-3 c = search needs

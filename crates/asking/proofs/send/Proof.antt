@@ -40,16 +40,16 @@ enum-told : tie.Need-enum-told
 enum-told c = search needs
 
 refused-requires : tie.Need-refused-requires
-refused-requires c κs = search needs
+refused-requires c κs = tt
 
 enum-told-2 : tie.Need-enum-told-2
 enum-told-2 c = search needs
 
 fresh-requires : tie.Need-fresh-requires
-fresh-requires c κs = search needs
+fresh-requires c κs = tt
 
 trigger-fields-requires : tie.Need-trigger-fields-requires
-trigger-fields-requires c κs = search needs
+trigger-fields-requires c κs = tt
 
 send-bare-requires : tie.Need-send-bare-requires
 send-bare-requires c κs = (ap dataSize (c .before .trigger-fields .ensures), lent (c .before .before .before .before .before .before .before .before .before .before .args .memory .now) (c .before .before .before .before .before .before .before .before .before .before .args .turn .now) (c .before .before .before .before .before .before .before .before .before .before .args .output .now) (c .before .before .before .before .before .before .before .before .before .before .pre .1) .room)
@@ -58,10 +58,10 @@ enum-told-3 : tie.Need-enum-told-3
 enum-told-3 c = search needs
 
 request-sent-requires : tie.Need-request-sent-requires
-request-sent-requires c κs = search needs
+request-sent-requires c κs = tt
 
 request-fields-requires : tie.Need-request-fields-requires
-request-fields-requires c κs = search needs
+request-fields-requires c κs = tt
 
 send-bare-requires-2 : tie.Need-send-bare-requires-2
 send-bare-requires-2 c κs = (ap dataSize (c .before .request-fields .ensures), lent (c .before .before .before .before .before .before .before .before .before .before .args .memory .now) (c .before .before .before .before .before .before .before .before .before .before .args .turn .now) (c .before .before .before .before .before .before .before .before .before .before .args .output .now) (c .before .before .before .before .before .before .before .before .before .before .pre .1) .room)
@@ -70,10 +70,10 @@ enum-told-4 : tie.Need-enum-told-4
 enum-told-4 c = search needs
 
 begin-requires : tie.Need-begin-requires
-begin-requires c κs = search needs
+begin-requires c κs = tt
 
 request-fields-requires-2 : tie.Need-request-fields-requires-2
-request-fields-requires-2 c κs = search needs
+request-fields-requires-2 c κs = tt
 
 send-bare-requires-3 : tie.Need-send-bare-requires-3
 send-bare-requires-3 c κs = (ap dataSize (c .before .request-fields2 .ensures), lent (c .before .before .before .before .before .before .before .before .before .before .args .memory .now) (c .before .before .before .before .before .before .before .before .before .before .args .turn .now) (c .before .before .before .before .before .before .before .before .before .before .args .output .now) (c .before .before .before .before .before .before .before .before .before .before .pre .1) .room)

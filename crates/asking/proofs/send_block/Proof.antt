@@ -5,7 +5,7 @@ use Rattle.asking.proofs.send_block.Statement.{statement}
 use Rattle.asking.proofs.send_block.Tie as tie
 
 next-after-requires : tie.Need-next-after-requires
-next-after-requires c κs = search needs
+next-after-requires c κs = tt
 
 send-next-requires : tie.Need-send-next-requires
 send-next-requires c κs = search needs

@@ -1,10 +1,9 @@
 -- `asking_bare::trigger_fields` meets its contract.
-use borrow.Author.Needs.{needs}
 use Rattle.asking_bare.proofs.trigger_fields.Statement.{statement}
 use Rattle.asking_bare.proofs.trigger_fields.Tie as tie
 
 no-areas-requires : tie.Need-no-areas-requires
-no-areas-requires c κs = search needs
+no-areas-requires c κs = tt
 
 returns : tie.Need-returns
 returns c = rw (c .no-areas .ensures)

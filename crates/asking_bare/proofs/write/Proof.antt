@@ -20,7 +20,7 @@ not-octets : {refusal : Refusal} {n : ℕ} → Refused refusal ≡ Octets n → 
 not-octets e = let z : _≡_ {A = ℕ} 0 1 = cc in omega arith
 
 write-frame-requires : tie.Need-write-frame-requires
-write-frame-requires c κs = search needs
+write-frame-requires c κs = tt
 
 enum-known-octets : tie.Need-enum-known-octets
 enum-known-octets c = search needs

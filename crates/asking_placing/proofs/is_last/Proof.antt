@@ -4,7 +4,7 @@ use Rattle.asking_placing.proofs.is_last.Statement.{statement}
 use Rattle.asking_placing.proofs.is_last.Tie as tie
 
 blocks-requires : tie.Need-blocks-requires
-blocks-requires c κs = search needs
+blocks-requires c κs = tt
 
 add-result : tie.Need-add-result
 add-result c = search needs

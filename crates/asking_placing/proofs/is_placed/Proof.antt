@@ -1,13 +1,12 @@
 -- `asking_placing::is_placed` meets its contract.
-use borrow.Author.Needs.{needs}
 use Rattle.asking_placing.proofs.is_placed.Statement.{statement}
 use Rattle.asking_placing.proofs.is_placed.Tie as tie
 
 in-range-requires : tie.Need-in-range-requires
-in-range-requires c κs = search needs
+in-range-requires c κs = tt
 
 blocks-requires : tie.Need-blocks-requires
-blocks-requires c κs = search needs
+blocks-requires c κs = tt
 
 returns : tie.Need-returns
 returns c = rw (c .blocks2 .ensures, c .before .in-range .ensures)

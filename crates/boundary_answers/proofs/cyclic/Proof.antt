@@ -1,16 +1,15 @@
 -- `boundary_answers::cyclic` meets its contract.
-use borrow.Author.Needs.{needs}
 use Rattle.boundary_answers.proofs.cyclic.Statement.{statement}
 use Rattle.boundary_answers.proofs.cyclic.Tie as tie
 
 data-of-requires : tie.Need-data-of-requires
-data-of-requires c κs = search needs
+data-of-requires c κs = tt
 
 token-number-requires : tie.Need-token-number-requires
-token-number-requires c κs = search needs
+token-number-requires c κs = tt
 
 data-number-requires : tie.Need-data-number-requires
-data-number-requires c κs = search needs
+data-number-requires c κs = tt
 
 returns : tie.Need-returns
 returns c = rw (c .data-number .ensures, c .before .token-number .ensures, c .before .before .data-of .ensures)

@@ -1,10 +1,9 @@
 -- `boundary_answers::refused` meets its contract.
-use borrow.Author.Needs.{needs}
 use Rattle.boundary_answers.proofs.refused.Statement.{statement}
 use Rattle.boundary_answers.proofs.refused.Tie as tie
 
 number-of-requires : tie.Need-number-of-requires
-number-of-requires c κs = search needs
+number-of-requires c κs = tt
 
 returns : tie.Need-returns
 returns c = rw (c .number-of .ensures)

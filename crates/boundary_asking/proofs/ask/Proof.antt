@@ -10,7 +10,7 @@ use Rattle.boundary_lists.specs.Lists.{membersIn}
 use Rattle.boundary_participant.specs.Quick.{holdsBlock}
 use Rattle.boundary_places.specs.Laws.{core-in-back, left-alone}
 use Rattle.boundary_places.specs.Places.{coreIn}
-use Rattle.boundary_refused.specs.Due.{dueCore, askRefusal, refused-asked}
+use Rattle.boundary_due.specs.Due.{dueCore, askRefusal, refused-asked}
 use Rattle.boundary_told.specs.Told.{askedTold}
 use Rattle.laws.specs.Tests.{first, second}
 use Rattle.station.specs.Rules.Asking.{Asking, lentRight, askOf}
@@ -18,13 +18,13 @@ use Rattle.boundary_asking.proofs.ask.Statement.{statement}
 use Rattle.boundary_asking.proofs.ask.Tie as tie
 
 is-lent-right-requires : tie.Need-is-lent-right-requires
-is-lent-right-requires c κs = search needs
+is-lent-right-requires c κs = tt
 
 core-in-requires : tie.Need-core-in-requires
-core-in-requires c κs = search needs
+core-in-requires c κs = tt
 
 holds-block-requires : tie.Need-holds-block-requires
-holds-block-requires c κs = search needs
+holds-block-requires c κs = tt
 
 ask-block-requires : tie.Need-ask-block-requires
 ask-block-requires c κs =
@@ -46,13 +46,13 @@ returns c =
     carried call (a .core .now) (c .before .before .before .before .before .before .before .before .before .before .before .before .before .before .core-in .ensures .0) (c .before .before .before .before .ask-block .ensures)
 
 is-due-requires : tie.Need-is-due-requires
-is-due-requires c κs = search needs
+is-due-requires c κs = tt
 
 ask-refusal-requires : tie.Need-ask-refusal-requires
-ask-refusal-requires c κs = search needs
+ask-refusal-requires c κs = tt
 
 refused-requires : tie.Need-refused-requires
-refused-requires c κs = search needs
+refused-requires c κs = tt
 
 same-length-3 : tie.Need-same-length-3
 same-length-3 c = search needs

@@ -12,7 +12,7 @@ ask-requires : tie.Need-ask-requires
 ask-requires c κs = search needs
 
 keep-requires : tie.Need-keep-requires
-keep-requires c κs = search needs
+keep-requires c κs = tt
 
 same-length : tie.Need-same-length
 same-length c = search needs

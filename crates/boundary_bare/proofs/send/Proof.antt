@@ -14,7 +14,7 @@ use Rattle.boundary_bare.proofs.send.Statement.{statement}
 use Rattle.boundary_bare.proofs.send.Tie as tie
 
 is-requesting-requires : tie.Need-is-requesting-requires
-is-requesting-requires c κs = search needs
+is-requesting-requires c κs = tt
 
 send-requires : tie.Need-send-requires
 send-requires c κs = search needs

@@ -8,16 +8,16 @@ use Rattle.boundary_bare.proofs.trigger.Statement.{statement}
 use Rattle.boundary_bare.proofs.trigger.Tie as tie
 
 trigger-fields-requires : tie.Need-trigger-fields-requires
-trigger-fields-requires c κs = search needs
+trigger-fields-requires c κs = tt
 
 write-bare-requires : tie.Need-write-bare-requires
 write-bare-requires c κs = (ap dataSize (c .before .trigger-fields .ensures), c .before .before .before .before .pre)
 
 begin-requires : tie.Need-begin-requires
-begin-requires c κs = search needs
+begin-requires c κs = tt
 
 frame-answer-requires : tie.Need-frame-answer-requires
-frame-answer-requires c κs = search needs
+frame-answer-requires c κs = tt
 
 same-length : tie.Need-same-length
 same-length c = search needs

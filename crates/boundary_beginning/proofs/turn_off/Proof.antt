@@ -1,5 +1,5 @@
 -- `boundary_beginning::turn_off` meets its contract.
-use Rattle.laws.specs.Usual.{ap, _∙_, needs}
+use Rattle.laws.specs.Usual.{ap, _∙_}
 use Rattle.area.specs.declared.Areas.{Areas}
 use Rattle.boundary_core.specs.Crossing.{coreOf}
 use Rattle.station.specs.Rules.State.{fresh}
@@ -8,10 +8,10 @@ use Rattle.boundary_beginning.proofs.turn_off.Statement.{statement}
 use Rattle.boundary_beginning.proofs.turn_off.Tie as tie
 
 no-areas-requires : tie.Need-no-areas-requires
-no-areas-requires c κs = search needs
+no-areas-requires c κs = tt
 
 begin-requires : tie.Need-begin-requires
-begin-requires c κs = search needs
+begin-requires c κs = tt
 
 returns : tie.Need-returns
 returns c =

@@ -22,7 +22,7 @@ cast-smallest : tie.Need-cast-smallest
 cast-smallest c = search needs
 
 participate-requires : tie.Need-participate-requires
-participate-requires c κs = search needs
+participate-requires c κs = tt
 
 returns : tie.Need-returns
 returns c =
@@ -35,7 +35,7 @@ returns c =
     )
 
 begin-requires : tie.Need-begin-requires
-begin-requires c κs = search needs
+begin-requires c κs = tt
 
 returns-2 : tie.Need-returns-2
 returns-2 c =

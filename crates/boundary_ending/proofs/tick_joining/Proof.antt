@@ -1,5 +1,5 @@
 -- `boundary_ending::tick_joining` meets its contract.
-use Rattle.laws.specs.Usual.{refl, sym, ap, ap₂, _∙_, ℕ, leb, needs}
+use Rattle.laws.specs.Usual.{refl, sym, ap, ap₂, _∙_, ℕ, leb}
 use borrow.Author.Tests.{le-leb, lt-leb}
 use Rattle.boundary_core.specs.Crossing.{stationOf}
 use Rattle.boundary_core.specs.declared.Core.{Core}
@@ -13,16 +13,16 @@ use Rattle.boundary_ending.proofs.tick_joining.Statement.{statement}
 use Rattle.boundary_ending.proofs.tick_joining.Tie as tie
 
 count-requires : tie.Need-count-requires
-count-requires c κs = search needs
+count-requires c κs = tt
 
 detection-wait-requires : tie.Need-detection-wait-requires
-detection-wait-requires c κs = search needs
+detection-wait-requires c κs = tt
 
 begin-requires : tie.Need-begin-requires
-begin-requires c κs = search needs
+begin-requires c κs = tt
 
 done-requires : tie.Need-done-requires
-done-requires c κs = search needs
+done-requires c κs = tt
 
 returns : tie.Need-returns
 returns c =
@@ -37,10 +37,10 @@ returns c =
     (c .before .begin .ensures .1)
 
 fall-due-requires : tie.Need-fall-due-requires
-fall-due-requires c κs = search needs
+fall-due-requires c κs = tt
 
 done-requires-2 : tie.Need-done-requires-2
-done-requires-2 c κs = search needs
+done-requires-2 c κs = tt
 
 returns-2 : tie.Need-returns-2
 returns-2 c =

@@ -1,5 +1,5 @@
 -- `boundary_ending::tick_startup` meets its contract.
-use Rattle.laws.specs.Usual.{refl, sym, ap, ap₂, _∙_, ℕ, leb, needs}
+use Rattle.laws.specs.Usual.{refl, sym, ap, ap₂, _∙_, ℕ, leb}
 use borrow.Author.Tests.{le-leb, lt-leb}
 use Rattle.boundary_core.specs.Crossing.{stationOf}
 use Rattle.boundary_core.specs.declared.Core.{Core}
@@ -12,16 +12,16 @@ use Rattle.boundary_ending.proofs.tick_startup.Statement.{statement}
 use Rattle.boundary_ending.proofs.tick_startup.Tie as tie
 
 count-requires : tie.Need-count-requires
-count-requires c κs = search needs
+count-requires c κs = tt
 
 acceptance-time-requires : tie.Need-acceptance-time-requires
-acceptance-time-requires c κs = search needs
+acceptance-time-requires c κs = tt
 
 start-up-requires : tie.Need-start-up-requires
-start-up-requires c κs = search needs
+start-up-requires c κs = tt
 
 done-requires : tie.Need-done-requires
-done-requires c κs = search needs
+done-requires c κs = tt
 
 returns : tie.Need-returns
 returns c =
@@ -36,10 +36,10 @@ returns c =
     (c .before .start-up .ensures .1)
 
 fall-due-requires : tie.Need-fall-due-requires
-fall-due-requires c κs = search needs
+fall-due-requires c κs = tt
 
 done-requires-2 : tie.Need-done-requires-2
-done-requires-2 c κs = search needs
+done-requires-2 c κs = tt
 
 returns-2 : tie.Need-returns-2
 returns-2 c =

@@ -1,5 +1,5 @@
 -- `boundary_entering::begin_joining` meets its contract.
-use Rattle.laws.specs.Usual.{ap, ap₂, _∙_, cond, ℕ, ltb, needs}
+use Rattle.laws.specs.Usual.{ap, ap₂, _∙_, cond, ℕ, ltb}
 use Rattle.boundary_core.specs.declared.Core.{Core}
 use Rattle.frame_writing.specs.Writing.{noAreas}
 use Rattle.members.specs.Listing.{listing}
@@ -9,13 +9,13 @@ use Rattle.boundary_entering.proofs.begin_joining.Statement.{statement}
 use Rattle.boundary_entering.proofs.begin_joining.Tie as tie
 
 begin-requires : tie.Need-begin-requires
-begin-requires c κs = search needs
+begin-requires c κs = tt
 
 learn-requires : tie.Need-learn-requires
-learn-requires c κs = search needs
+learn-requires c κs = tt
 
 join-requires : tie.Need-join-requires
-join-requires c κs = search needs
+join-requires c κs = tt
 
 returns : tie.Need-returns
 returns c =

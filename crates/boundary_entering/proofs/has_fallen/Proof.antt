@@ -4,10 +4,10 @@ use Rattle.boundary_entering.proofs.has_fallen.Statement.{statement}
 use Rattle.boundary_entering.proofs.has_fallen.Tie as tie
 
 phase-of-requires : tie.Need-phase-of-requires
-phase-of-requires c κs = search needs
+phase-of-requires c κs = tt
 
 number-wait-requires : tie.Need-number-wait-requires
-number-wait-requires c κs = search needs
+number-wait-requires c κs = tt
 
 enum-told : tie.Need-enum-told
 enum-told c = search needs

@@ -8,49 +8,49 @@ use Rattle.boundary_entering.proofs.hear.Statement.{statement}
 use Rattle.boundary_entering.proofs.hear.Tie as tie
 
 phase-of-requires : tie.Need-phase-of-requires
-phase-of-requires c κs = search needs
+phase-of-requires c κs = tt
 
 answer-requires : tie.Need-answer-requires
-answer-requires c κs = search needs
+answer-requires c κs = tt
 
 heard-answer-requires : tie.Need-heard-answer-requires
-heard-answer-requires c κs = search needs
+heard-answer-requires c κs = tt
 
 effect-of-requires : tie.Need-effect-of-requires
-effect-of-requires c κs = search needs
+effect-of-requires c κs = tt
 
 enum-told : tie.Need-enum-told
 enum-told c = search needs
 
 kept-requires : tie.Need-kept-requires
-kept-requires c κs = search needs
+kept-requires c κs = tt
 
 enum-told-2 : tie.Need-enum-told-2
 enum-told-2 c = search needs
 
 request-requires : tie.Need-request-requires
-request-requires c κs = search needs
+request-requires c κs = tt
 
 enum-told-3 : tie.Need-enum-told-3
 enum-told-3 c = search needs
 
 learn-requires : tie.Need-learn-requires
-learn-requires c κs = search needs
+learn-requires c κs = tt
 
 join-requires : tie.Need-join-requires
-join-requires c κs = search needs
+join-requires c κs = tt
 
 enum-told-4 : tie.Need-enum-told-4
 enum-told-4 c = search needs
 
 begin-requires : tie.Need-begin-requires
-begin-requires c κs = search needs
+begin-requires c κs = tt
 
 enum-told-5 : tie.Need-enum-told-5
 enum-told-5 c = search needs
 
 begin-joining-requires : tie.Need-begin-joining-requires
-begin-joining-requires c κs = search needs
+begin-joining-requires c κs = tt
 
 returns : tie.Need-returns
 returns c =

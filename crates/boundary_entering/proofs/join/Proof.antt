@@ -1,16 +1,15 @@
 -- `boundary_entering::join` meets its contract.
-use Rattle.laws.specs.Usual.{needs}
 use Rattle.boundary_entering.proofs.join.Statement.{statement}
 use Rattle.boundary_entering.proofs.join.Tie as tie
 
 elapsed-after-requires : tie.Need-elapsed-after-requires
-elapsed-after-requires c κs = search needs
+elapsed-after-requires c κs = tt
 
 rounds-after-requires : tie.Need-rounds-after-requires
-rounds-after-requires c κs = search needs
+rounds-after-requires c κs = tt
 
 destination-after-requires : tie.Need-destination-after-requires
-destination-after-requires c κs = search needs
+destination-after-requires c κs = tt
 
 returns : tie.Need-returns
 returns c = rw (c .before .before .before .before .before .before .elapsed-after .ensures, c .before .before .before .before .before .rounds-after .ensures, c .before .before .before .before .destination-after .ensures)

@@ -1,14 +1,14 @@
 -- `boundary_entering::learn` meets its contract.
-use Rattle.laws.specs.Usual.{_∙_, needs}
+use Rattle.laws.specs.Usual.{_∙_}
 use borrow.Author.Tests.{lt-ltb, le-ltb}
 use Rattle.boundary_entering.proofs.learn.Statement.{statement}
 use Rattle.boundary_entering.proofs.learn.Tie as tie
 
 no-areas-requires : tie.Need-no-areas-requires
-no-areas-requires c κs = search needs
+no-areas-requires c κs = tt
 
 list-requires : tie.Need-list-requires
-list-requires c κs = search needs
+list-requires c κs = tt
 
 returns : tie.Need-returns
 returns c = c .list .ensures ∙ rw (c .before .no-areas .ensures, lt-ltb _ _ (c .before .before .before .before .before .before .if1 .taken))

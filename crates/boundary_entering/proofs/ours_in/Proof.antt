@@ -1,13 +1,13 @@
 -- `boundary_entering::ours_in` meets its contract.
-use Rattle.laws.specs.Usual.{_∙_, needs}
+use Rattle.laws.specs.Usual.{_∙_}
 use Rattle.boundary_entering.proofs.ours_in.Statement.{statement}
 use Rattle.boundary_entering.proofs.ours_in.Tie as tie
 
 has-fallen-requires : tie.Need-has-fallen-requires
-has-fallen-requires c κs = search needs
+has-fallen-requires c κs = tt
 
 no-areas-requires : tie.Need-no-areas-requires
-no-areas-requires c κs = search needs
+no-areas-requires c κs = tt
 
 returns : tie.Need-returns
 returns c = rw (← c .before .before .has-fallen .ensures, c .before .if1 .taken)

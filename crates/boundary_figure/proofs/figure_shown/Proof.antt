@@ -1,16 +1,15 @@
 -- `boundary_figure::figure_shown` meets its contract.
-use borrow.Author.Needs.{needs}
 use Rattle.boundary_figure.proofs.figure_shown.Statement.{statement}
 use Rattle.boundary_figure.proofs.figure_shown.Tie as tie
 
 text-of-requires : tie.Need-text-of-requires
-text-of-requires c κs = search needs
+text-of-requires c κs = tt
 
 kind-of-requires : tie.Need-kind-of-requires
-kind-of-requires c κs = search needs
+kind-of-requires c κs = tt
 
 ticks-of-requires : tie.Need-ticks-of-requires
-ticks-of-requires c κs = search needs
+ticks-of-requires c κs = tt
 
 returns : tie.Need-returns
 returns c = rw (c .ticks-of .ensures, c .before .kind-of .ensures, c .before .before .before .text-of .ensures)

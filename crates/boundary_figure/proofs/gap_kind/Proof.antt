@@ -1,10 +1,10 @@
 -- `boundary_figure::gap_kind` meets its contract.
-use Rattle.laws.specs.Usual.{sym, _∙_, needs}
+use Rattle.laws.specs.Usual.{sym, _∙_}
 use Rattle.boundary_figure.proofs.gap_kind.Statement.{statement}
 use Rattle.boundary_figure.proofs.gap_kind.Tie as tie
 
 is-over-requires : tie.Need-is-over-requires
-is-over-requires c κs = search needs
+is-over-requires c κs = tt
 
 returns : tie.Need-returns
 returns c = rw (sym (c .before .is-over .ensures) ∙ c .if1 .taken)

@@ -1,11 +1,11 @@
 -- `boundary_figure::gap_ticks` meets its contract.
-use Rattle.laws.specs.Usual.{sym, _∙_, arith, needs}
+use Rattle.laws.specs.Usual.{sym, _∙_, arith}
 use borrow.Author.Tests.{ltb-false}
 use Rattle.boundary_figure.proofs.gap_ticks.Statement.{statement}
 use Rattle.boundary_figure.proofs.gap_ticks.Tie as tie
 
 is-over-requires : tie.Need-is-over-requires
-is-over-requires c κs = search needs
+is-over-requires c κs = tt
 
 cast-result : tie.Need-cast-result
 cast-result c = omega (arith, ltb-false 65535 (c .before .before .before .args .gap .0) (sym (c .before .before .is-over .ensures) ∙ c .before .if1 .left))

@@ -14,7 +14,7 @@ enum-known-figure : tie.Need-enum-known-figure
 enum-known-figure c = search needs
 
 gap-kind-requires : tie.Need-gap-kind-requires
-gap-kind-requires c κs = search needs
+gap-kind-requires c κs = tt
 
 returns : tie.Need-returns
 returns c = search needs

@@ -14,7 +14,7 @@ enum-known-figure : tie.Need-enum-known-figure
 enum-known-figure c = search needs
 
 gap-ticks-requires : tie.Need-gap-ticks-requires
-gap-ticks-requires c κs = search needs
+gap-ticks-requires c κs = tt
 
 returns : tie.Need-returns
 returns c = search needs

@@ -12,7 +12,7 @@ hear-requires c κs =
     (pre .0, (pre .1 .0, (pre .1 .1, (refl, refl))))
 
 keep-requires : tie.Need-keep-requires
-keep-requires c κs = search needs
+keep-requires c κs = tt
 
 same-length : tie.Need-same-length
 same-length c = search needs

@@ -22,10 +22,10 @@ use Rattle.boundary_frames.proofs.hear_frame.Statement.{statement}
 use Rattle.boundary_frames.proofs.hear_frame.Tie as tie
 
 core-in-requires : tie.Need-core-in-requires
-core-in-requires c κs = search needs
+core-in-requires c κs = tt
 
 hear-seldom-requires : tie.Need-hear-seldom-requires
-hear-seldom-requires c κs = search needs
+hear-seldom-requires c κs = tt
 
 returns : tie.Need-returns
 returns c =
@@ -41,13 +41,13 @@ returns c =
     (entered-leaves state members (a .octets .now) (a .memory .now) (a .assembly .now) (a .core .now) (a .frame) free other (pre .1 .0) (pre .1 .1) (c .hear-seldom .ensures))
 
 is-listed-requires : tie.Need-is-listed-requires
-is-listed-requires c κs = search needs
+is-listed-requires c κs = tt
 
 is-listed-requires-2 : tie.Need-is-listed-requires-2
-is-listed-requires-2 c κs = search needs
+is-listed-requires-2 c κs = tt
 
 is-accepted-requires : tie.Need-is-accepted-requires
-is-accepted-requires c κs = search needs
+is-accepted-requires c κs = tt
 
 hear-cyclic-requires : tie.Need-hear-cyclic-requires
 hear-cyclic-requires c κs =
@@ -67,13 +67,13 @@ returns-2 c =
     carried call (a .octets .now) (a .core .now) (c .before .before .before .before .before .before .before .before .before .before .before .before .before .before .before .before .before .before .before .before .core-in .ensures .0) (c .before .before .before .before .hear-cyclic .ensures)
 
 is-strange-requires : tie.Need-is-strange-requires
-is-strange-requires c κs = search needs
+is-strange-requires c κs = tt
 
 refused-requires : tie.Need-refused-requires
-refused-requires c κs = search needs
+refused-requires c κs = tt
 
 tell-read-requires : tie.Need-tell-read-requires
-tell-read-requires c κs = search needs
+tell-read-requires c κs = tt
 
 returns-3 : tie.Need-returns-3
 returns-3 c =
@@ -97,7 +97,7 @@ returns-3 c =
     (numbers .0, (numbers .1, (answer, left .1 .1)))
 
 hear-seldom-requires-2 : tie.Need-hear-seldom-requires-2
-hear-seldom-requires-2 c κs = search needs
+hear-seldom-requires-2 c κs = tt
 
 returns-4 : tie.Need-returns-4
 returns-4 c =

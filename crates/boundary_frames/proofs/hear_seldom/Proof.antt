@@ -12,10 +12,10 @@ hear-requires : tie.Need-hear-requires
 hear-requires c κs = search needs
 
 keep-requires : tie.Need-keep-requires
-keep-requires c κs = search needs
+keep-requires c κs = tt
 
 tell-read-requires : tie.Need-tell-read-requires
-tell-read-requires c κs = search needs
+tell-read-requires c κs = tt
 
 returns : tie.Need-returns
 returns c =

@@ -12,7 +12,7 @@ use Rattle.boundary_hearing.proofs.hear.Statement.{statement}
 use Rattle.boundary_hearing.proofs.hear.Tie as tie
 
 read-header-requires : tie.Need-read-header-requires
-read-header-requires c κs = search needs
+read-header-requires c κs = tt
 
 enum-known-header : tie.Need-enum-known-header
 enum-known-header c = search needs
@@ -24,13 +24,13 @@ enum-known-refusal : tie.Need-enum-known-refusal
 enum-known-refusal c = search needs
 
 leave-requires : tie.Need-leave-requires
-leave-requires c κs = search needs
+leave-requires c κs = tt
 
 heard-refusal-requires : tie.Need-heard-refusal-requires
-heard-refusal-requires c κs = search needs
+heard-refusal-requires c κs = tt
 
 refused-requires : tie.Need-refused-requires
-refused-requires c κs = search needs
+refused-requires c κs = tt
 
 same-length : tie.Need-same-length
 same-length c = search needs

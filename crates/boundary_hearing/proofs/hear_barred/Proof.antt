@@ -1,5 +1,5 @@
 -- `boundary_hearing::hear_barred` meets its contract.
-use Rattle.laws.specs.Usual.{_≡_, refl, sym, ap, _∙_, true, needs}
+use Rattle.laws.specs.Usual.{_≡_, refl, sym, ap, _∙_, true}
 use borrow.Author.Tests.{not-true, not-false}
 use Rattle.boundary_core.specs.Crossing.{coreOf, stationOf}
 use Rattle.boundary_core.specs.declared.Core.{Core}
@@ -15,10 +15,10 @@ use Rattle.boundary_hearing.proofs.hear_barred.Statement.{statement}
 use Rattle.boundary_hearing.proofs.hear_barred.Tie as tie
 
 core-in-requires : tie.Need-core-in-requires
-core-in-requires c κs = search needs
+core-in-requires c κs = tt
 
 refused-requires : tie.Need-refused-requires
-refused-requires c κs = search needs
+refused-requires c κs = tt
 
 returns : tie.Need-returns
 returns c =
@@ -31,7 +31,7 @@ returns c =
     (numbers .0, (numbers .1, left .1))
 
 refused-requires-2 : tie.Need-refused-requires-2
-refused-requires-2 c κs = search needs
+refused-requires-2 c κs = tt
 
 returns-2 : tie.Need-returns-2
 returns-2 c =
@@ -50,13 +50,13 @@ returns-2 c =
     (numbers .0, (numbers .1, left .1))
 
 stop-requires : tie.Need-stop-requires
-stop-requires c κs = search needs
+stop-requires c κs = tt
 
 keep-requires : tie.Need-keep-requires
-keep-requires c κs = search needs
+keep-requires c κs = tt
 
 refused-requires-3 : tie.Need-refused-requires-3
-refused-requires-3 c κs = search needs
+refused-requires-3 c κs = tt
 
 returns-3 : tie.Need-returns-3
 returns-3 c =

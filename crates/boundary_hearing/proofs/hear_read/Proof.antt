@@ -17,13 +17,13 @@ use Rattle.boundary_hearing.proofs.hear_read.Statement.{statement}
 use Rattle.boundary_hearing.proofs.hear_read.Tie as tie
 
 core-in-requires : tie.Need-core-in-requires
-core-in-requires c κs = search needs
+core-in-requires c κs = tt
 
 is-taken-requires : tie.Need-is-taken-requires
-is-taken-requires c κs = search needs
+is-taken-requires c κs = tt
 
 read-body-requires : tie.Need-read-body-requires
-read-body-requires c κs = search needs
+read-body-requires c κs = tt
 
 enum-known-frame : tie.Need-enum-known-frame
 enum-known-frame c = search needs
@@ -44,7 +44,7 @@ enum-known-refusal : tie.Need-enum-known-refusal
 enum-known-refusal c = search needs
 
 refused-requires : tie.Need-refused-requires
-refused-requires c κs = search needs
+refused-requires c κs = tt
 
 same-length : tie.Need-same-length
 same-length c = search needs
@@ -83,7 +83,7 @@ hear-barred-requires c κs =
     (ap (λ (taken : Bool). lent && not taken) (sym taken) ∙ c .before .before .before .before .before .before .before .if1 .left, c .before .before .before .before .before .before .before .before .before .before .before .before .before .before .pre)
 
 tell-header-requires : tie.Need-tell-header-requires
-tell-header-requires c κs = search needs
+tell-header-requires c κs = tt
 
 same-length-3 : tie.Need-same-length-3
 same-length-3 c = search needs

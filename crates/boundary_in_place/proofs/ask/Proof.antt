@@ -16,7 +16,7 @@ use Rattle.boundary_in_place.proofs.ask.Statement.{statement}
 use Rattle.boundary_in_place.proofs.ask.Tie as tie
 
 next-after-ours-requires : tie.Need-next-after-ours-requires
-next-after-ours-requires c κs = search needs
+next-after-ours-requires c κs = tt
 
 send-next-requires : tie.Need-send-next-requires
 send-next-requires c κs =
@@ -29,10 +29,10 @@ send-next-requires c κs =
     (held-placed (a .core) (pre .0), (eqb-true (length (a .memory .now)) 17408 (first memory turn both), (eqb-true (length (a .turn .now)) 17408 (second memory turn both), leb-true 1088 (length (a .output .now)) (second (memory && turn) output (pre .1)))))
 
 frame-answer-requires : tie.Need-frame-answer-requires
-frame-answer-requires c κs = search needs
+frame-answer-requires c κs = tt
 
 tell-written-requires : tie.Need-tell-written-requires
-tell-written-requires c κs = search needs
+tell-written-requires c κs = tt
 
 sent-block-requires : tie.Need-sent-block-requires
 sent-block-requires c κs = c .before .before .before .before .before .before .before .before .before .before .before .before .before .before .before .pre .0

@@ -19,10 +19,10 @@ use Rattle.boundary_in_place.proofs.hear.Statement.{statement}
 use Rattle.boundary_in_place.proofs.hear.Tie as tie
 
 entry-at-requires : tie.Need-entry-at-requires
-entry-at-requires c κs = search needs
+entry-at-requires c κs = tt
 
 clear-requires : tie.Need-clear-requires
-clear-requires c κs = search needs
+clear-requires c κs = tt
 
 hear-accepted-requires : tie.Need-hear-accepted-requires
 hear-accepted-requires c κs =

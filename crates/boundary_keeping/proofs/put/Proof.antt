@@ -9,85 +9,85 @@ element-copy-out-with-phase : tie.Need-element-copy-out-with-phase
 element-copy-out-with-phase c = search needs
 
 with-phase-requires : tie.Need-with-phase-requires
-with-phase-requires c κs = search needs
+with-phase-requires c κs = tt
 
 element-copy-out-with-octet : tie.Need-element-copy-out-with-octet
 element-copy-out-with-octet c = search needs
 
 with-octet-requires : tie.Need-with-octet-requires
-with-octet-requires c κs = search needs
+with-octet-requires c κs = tt
 
 element-copy-out-with-octets : tie.Need-element-copy-out-with-octets
 element-copy-out-with-octets c = search needs
 
 with-octets-requires : tie.Need-with-octets-requires
-with-octets-requires c κs = search needs
+with-octets-requires c κs = tt
 
 element-copy-out-with-octets-2 : tie.Need-element-copy-out-with-octets-2
 element-copy-out-with-octets-2 c = search needs
 
 with-octets-requires-2 : tie.Need-with-octets-requires-2
-with-octets-requires-2 c κs = search needs
+with-octets-requires-2 c κs = tt
 
 element-copy-out-with-octets-3 : tie.Need-element-copy-out-with-octets-3
 element-copy-out-with-octets-3 c = search needs
 
 with-octets-requires-3 : tie.Need-with-octets-requires-3
-with-octets-requires-3 c κs = search needs
+with-octets-requires-3 c κs = tt
 
 element-copy-out-with-octets-4 : tie.Need-element-copy-out-with-octets-4
 element-copy-out-with-octets-4 c = search needs
 
 with-octets-requires-4 : tie.Need-with-octets-requires-4
-with-octets-requires-4 c κs = search needs
+with-octets-requires-4 c κs = tt
 
 element-copy-out-with-octet-2 : tie.Need-element-copy-out-with-octet-2
 element-copy-out-with-octet-2 c = search needs
 
 with-octet-requires-2 : tie.Need-with-octet-requires-2
-with-octet-requires-2 c κs = search needs
+with-octet-requires-2 c κs = tt
 
 element-copy-out-with-octet-3 : tie.Need-element-copy-out-with-octet-3
 element-copy-out-with-octet-3 c = search needs
 
 with-octet-requires-3 : tie.Need-with-octet-requires-3
-with-octet-requires-3 c κs = search needs
+with-octet-requires-3 c κs = tt
 
 element-copy-out-with-octet-4 : tie.Need-element-copy-out-with-octet-4
 element-copy-out-with-octet-4 c = search needs
 
 with-octet-requires-4 : tie.Need-with-octet-requires-4
-with-octet-requires-4 c κs = search needs
+with-octet-requires-4 c κs = tt
 
 element-copy-out-with-octet-5 : tie.Need-element-copy-out-with-octet-5
 element-copy-out-with-octet-5 c = search needs
 
 with-octet-requires-5 : tie.Need-with-octet-requires-5
-with-octet-requires-5 c κs = search needs
+with-octet-requires-5 c κs = tt
 
 element-copy-out-with-flag : tie.Need-element-copy-out-with-flag
 element-copy-out-with-flag c = search needs
 
 with-flag-requires : tie.Need-with-flag-requires
-with-flag-requires c κs = search needs
+with-flag-requires c κs = tt
 
 element-copy-out-with-octet-6 : tie.Need-element-copy-out-with-octet-6
 element-copy-out-with-octet-6 c = search needs
 
 with-octet-requires-6 : tie.Need-with-octet-requires-6
-with-octet-requires-6 c κs = search needs
+with-octet-requires-6 c κs = tt
 
 element-copy-out-with-octet-7 : tie.Need-element-copy-out-with-octet-7
 element-copy-out-with-octet-7 c = search needs
 
 with-octet-requires-7 : tie.Need-with-octet-requires-7
-with-octet-requires-7 c κs = search needs
+with-octet-requires-7 c κs = tt
 
 element-copy-out-with-octet-8 : tie.Need-element-copy-out-with-octet-8
 element-copy-out-with-octet-8 c = search needs
 
 with-octet-requires-8 : tie.Need-with-octet-requires-8
-with-octet-requires-8 c κs = search needs
+with-octet-requires-8 c κs = tt
 
 returns : tie.Need-returns
 unfolding kept

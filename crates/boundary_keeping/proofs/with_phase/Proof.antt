@@ -1,15 +1,14 @@
 -- `boundary_keeping::with_phase` meets its contract.
 use Rattle.laws.specs.Usual.{_∙_}
 use borrow.Author.Tests.{eq-eqb, ne-eqb}
-use borrow.Author.Needs.{needs}
 use Rattle.boundary_keeping.proofs.with_phase.Statement.{statement}
 use Rattle.boundary_keeping.proofs.with_phase.Tie as tie
 
 phase-in-requires : tie.Need-phase-in-requires
-phase-in-requires c κs = search needs
+phase-in-requires c κs = tt
 
 with-octet-requires : tie.Need-with-octet-requires
-with-octet-requires c κs = search needs
+with-octet-requires c κs = tt
 
 returns : tie.Need-returns
 returns c = rw (← c .before .phase-in .ensures, eq-eqb _ _ (c .if1 .taken))

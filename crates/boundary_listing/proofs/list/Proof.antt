@@ -4,7 +4,7 @@ use Rattle.boundary_listing.proofs.list.Statement.{statement}
 use Rattle.boundary_listing.proofs.list.Tie as tie
 
 listed-areas-requires : tie.Need-listed-areas-requires
-listed-areas-requires c κs = search needs
+listed-areas-requires c κs = tt
 
 put-requires : tie.Need-put-requires
 put-requires c κs = search needs

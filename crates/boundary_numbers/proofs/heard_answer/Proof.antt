@@ -7,25 +7,25 @@ enum-told : tie.Need-enum-told
 enum-told c = search needs
 
 off-requires : tie.Need-off-requires
-off-requires c κs = search needs
+off-requires c κs = tt
 
 enum-told-2 : tie.Need-enum-told-2
 enum-told-2 c = search needs
 
 done-requires : tie.Need-done-requires
-done-requires c κs = search needs
+done-requires c κs = tt
 
 enum-known-answer : tie.Need-enum-known-answer
 enum-known-answer c = search needs
 
 cyclic-requires : tie.Need-cyclic-requires
-cyclic-requires c κs = search needs
+cyclic-requires c κs = tt
 
 enum-known-answer-2 : tie.Need-enum-known-answer-2
 enum-known-answer-2 c = search needs
 
 refused-requires : tie.Need-refused-requires
-refused-requires c κs = search needs
+refused-requires c κs = tt
 
 returns : tie.Need-returns
 returns c = search needs

@@ -1,10 +1,10 @@
 -- `boundary_overlap::overlaps_entry` meets its contract.
-use Rattle.laws.specs.Usual.{_∙_, needs}
+use Rattle.laws.specs.Usual.{_∙_}
 use Rattle.boundary_overlap.proofs.overlaps_entry.Statement.{statement}
 use Rattle.boundary_overlap.proofs.overlaps_entry.Tie as tie
 
 areas-overlap-requires : tie.Need-areas-overlap-requires
-areas-overlap-requires c κs = search needs
+areas-overlap-requires c κs = tt
 
 returns : tie.Need-returns
 returns c = c .areas-overlap .ensures ∙ rw (c .before .if1 .taken)

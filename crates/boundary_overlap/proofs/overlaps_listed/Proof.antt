@@ -1,10 +1,9 @@
 -- `boundary_overlap::overlaps_listed` meets its contract.
-use Rattle.laws.specs.Usual.{needs}
 use Rattle.boundary_overlap.proofs.overlaps_listed.Statement.{statement}
 use Rattle.boundary_overlap.proofs.overlaps_listed.Tie as tie
 
 overlaps-other-requires : tie.Need-overlaps-other-requires
-overlaps-other-requires c κs = search needs
+overlaps-other-requires c κs = tt
 
 returns : tie.Need-returns
 returns c = c .overlaps-other .ensures

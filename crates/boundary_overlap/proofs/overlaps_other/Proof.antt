@@ -31,10 +31,10 @@ cast-entry-at : tie.Need-cast-entry-at Inv-loop μ-loop
 cast-entry-at c = search needs
 
 entry-at-requires : tie.Need-entry-at-requires Inv-loop μ-loop
-entry-at-requires c κs = search needs
+entry-at-requires c κs = tt
 
 overlaps-entry-requires : tie.Need-overlaps-entry-requires Inv-loop μ-loop
-overlaps-entry-requires c κs = search needs
+overlaps-entry-requires c κs = tt
 
 returns : tie.Need-returns Inv-loop μ-loop
 returns c =

@@ -7,13 +7,13 @@ shared-slice-read-octet-of : tie.Need-shared-slice-read-octet-of
 shared-slice-read-octet-of c = search needs
 
 octet-of-requires : tie.Need-octet-of-requires
-octet-of-requires c κs = search needs
+octet-of-requires c κs = tt
 
 shared-slice-read-octet-of-2 : tie.Need-shared-slice-read-octet-of-2
 shared-slice-read-octet-of-2 c = search needs
 
 octet-of-requires-2 : tie.Need-octet-of-requires-2
-octet-of-requires-2 c κs = search needs
+octet-of-requires-2 c κs = tt
 
 returns : tie.Need-returns
 returns c = rw (c .octet-of2 .ensures, c .before .before .octet-of .ensures)

@@ -7,7 +7,7 @@ shared-slice-read-octet-of : tie.Need-shared-slice-read-octet-of
 shared-slice-read-octet-of c = search needs
 
 octet-of-requires : tie.Need-octet-of-requires
-octet-of-requires c κs = search needs
+octet-of-requires c κs = tt
 
 shared-slice-read-t6 : tie.Need-shared-slice-read-t6
 shared-slice-read-t6 c = search needs

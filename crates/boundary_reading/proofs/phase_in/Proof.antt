@@ -2,12 +2,11 @@
 use Rattle.laws.specs.Usual.{Bool, ℕ, sym, ap, _∙_, cond, leb}
 use Rattle.boundary_places.specs.Places.{octet}
 use borrow.Author.Tests.{le-leb, lt-leb}
-use borrow.Author.Needs.{needs}
 use Rattle.boundary_reading.proofs.phase_in.Statement.{statement}
 use Rattle.boundary_reading.proofs.phase_in.Tie as tie
 
 octet-of-requires : tie.Need-octet-of-requires
-octet-of-requires c κs = search needs
+octet-of-requires c κs = tt
 
 returns : tie.Need-returns
 returns c = c .before .octet-of .ensures ∙ sym (ap (λ (t : Bool). cond t (octet (c .before .before .args .number)) 0) (ap (λ (n : ℕ). leb n 4) (sym (c .before .octet-of .ensures)) ∙ le-leb _ _ (c .if1 .taken)))

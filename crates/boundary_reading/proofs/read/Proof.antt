@@ -17,19 +17,19 @@ shared-slice-read-phase-in : tie.Need-shared-slice-read-phase-in
 shared-slice-read-phase-in c = search needs
 
 phase-in-requires : tie.Need-phase-in-requires
-phase-in-requires c κs = search needs
+phase-in-requires c κs = tt
 
 shared-slice-read-octet-of : tie.Need-shared-slice-read-octet-of
 shared-slice-read-octet-of c = search needs
 
 octet-of-requires : tie.Need-octet-of-requires
-octet-of-requires c κs = search needs
+octet-of-requires c κs = tt
 
 shared-slice-read-octet-of-2 : tie.Need-shared-slice-read-octet-of-2
 shared-slice-read-octet-of-2 c = search needs
 
 octet-of-requires-2 : tie.Need-octet-of-requires-2
-octet-of-requires-2 c κs = search needs
+octet-of-requires-2 c κs = tt
 
 shared-slice-read-t15 : tie.Need-shared-slice-read-t15
 shared-slice-read-t15 c = search needs
@@ -41,13 +41,13 @@ shared-slice-read-octet-of-3 : tie.Need-shared-slice-read-octet-of-3
 shared-slice-read-octet-of-3 c = search needs
 
 octet-of-requires-3 : tie.Need-octet-of-requires-3
-octet-of-requires-3 c κs = search needs
+octet-of-requires-3 c κs = tt
 
 shared-slice-read-flag-of : tie.Need-shared-slice-read-flag-of
 shared-slice-read-flag-of c = search needs
 
 flag-of-requires : tie.Need-flag-of-requires
-flag-of-requires c κs = search needs
+flag-of-requires c κs = tt
 
 returns : tie.Need-returns
 unfolding coreIn

@@ -7,37 +7,37 @@ shared-slice-read-octets-of : tie.Need-shared-slice-read-octets-of
 shared-slice-read-octets-of c = search needs
 
 octets-of-requires : tie.Need-octets-of-requires
-octets-of-requires c κs = search needs
+octets-of-requires c κs = tt
 
 shared-slice-read-octets-of-2 : tie.Need-shared-slice-read-octets-of-2
 shared-slice-read-octets-of-2 c = search needs
 
 octets-of-requires-2 : tie.Need-octets-of-requires-2
-octets-of-requires-2 c κs = search needs
+octets-of-requires-2 c κs = tt
 
 shared-slice-read-octets-of-3 : tie.Need-shared-slice-read-octets-of-3
 shared-slice-read-octets-of-3 c = search needs
 
 octets-of-requires-3 : tie.Need-octets-of-requires-3
-octets-of-requires-3 c κs = search needs
+octets-of-requires-3 c κs = tt
 
 shared-slice-read-octets-of-4 : tie.Need-shared-slice-read-octets-of-4
 shared-slice-read-octets-of-4 c = search needs
 
 octets-of-requires-4 : tie.Need-octets-of-requires-4
-octets-of-requires-4 c κs = search needs
+octets-of-requires-4 c κs = tt
 
 shared-slice-read-octet-of : tie.Need-shared-slice-read-octet-of
 shared-slice-read-octet-of c = search needs
 
 octet-of-requires : tie.Need-octet-of-requires
-octet-of-requires c κs = search needs
+octet-of-requires c κs = tt
 
 shared-slice-read-octet-of-2 : tie.Need-shared-slice-read-octet-of-2
 shared-slice-read-octet-of-2 c = search needs
 
 octet-of-requires-2 : tie.Need-octet-of-requires-2
-octet-of-requires-2 c κs = search needs
+octet-of-requires-2 c κs = tt
 
 returns : tie.Need-returns
 returns c = rw (c .octet-of2 .ensures, c .before .before .octet-of .ensures, c .before .before .before .before .octets-of4 .ensures, c .before .before .before .before .before .before .octets-of3 .ensures, c .before .before .before .before .before .before .before .before .octets-of2 .ensures, c .before .before .before .before .before .before .before .before .before .before .octets-of .ensures)

@@ -1,13 +1,12 @@
 -- `boundary_refused::is_taken` meets its contract.
-use Rattle.laws.specs.Usual.{needs}
 use Rattle.boundary_refused.proofs.is_taken.Statement.{statement}
 use Rattle.boundary_refused.proofs.is_taken.Tie as tie
 
 phase-of-requires : tie.Need-phase-of-requires
-phase-of-requires c κs = search needs
+phase-of-requires c κs = tt
 
 is-off-requires : tie.Need-is-off-requires
-is-off-requires c κs = search needs
+is-off-requires c κs = tt
 
 returns : tie.Need-returns
 returns c = rw (c .before .before .is-off .ensures, c .before .before .before .phase-of .ensures)

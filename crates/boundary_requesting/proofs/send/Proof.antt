@@ -8,16 +8,16 @@ use Rattle.boundary_requesting.proofs.send.Statement.{statement}
 use Rattle.boundary_requesting.proofs.send.Tie as tie
 
 request-fields-requires : tie.Need-request-fields-requires
-request-fields-requires c κs = search needs
+request-fields-requires c κs = tt
 
 write-bare-requires : tie.Need-write-bare-requires
 write-bare-requires c κs = (ap dataSize (c .before .request-fields .ensures), c .before .before .before .before .pre)
 
 after-request-requires : tie.Need-after-request-requires
-after-request-requires c κs = search needs
+after-request-requires c κs = tt
 
 frame-answer-requires : tie.Need-frame-answer-requires
-frame-answer-requires c κs = search needs
+frame-answer-requires c κs = tt
 
 same-length : tie.Need-same-length
 same-length c = search needs

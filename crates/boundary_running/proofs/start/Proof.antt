@@ -12,25 +12,25 @@ use Rattle.boundary_running.proofs.start.Statement.{statement}
 use Rattle.boundary_running.proofs.start.Tie as tie
 
 phase-of-requires : tie.Need-phase-of-requires
-phase-of-requires c κs = search needs
+phase-of-requires c κs = tt
 
 start-answer-requires : tie.Need-start-answer-requires
-start-answer-requires c κs = search needs
+start-answer-requires c κs = tt
 
 enum-told : tie.Need-enum-told
 enum-told c = search needs
 
 begin-requires : tie.Need-begin-requires
-begin-requires c κs = search needs
+begin-requires c κs = tt
 
 done-requires : tie.Need-done-requires
-done-requires c κs = search needs
+done-requires c κs = tt
 
 enum-known-refusal : tie.Need-enum-known-refusal
 enum-known-refusal c = search needs
 
 refuse-requires : tie.Need-refuse-requires
-refuse-requires c κs = search needs
+refuse-requires c κs = tt
 
 returns : tie.Need-returns
 returns c =

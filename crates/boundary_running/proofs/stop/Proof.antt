@@ -1,5 +1,5 @@
 -- `boundary_running::stop` meets its contract.
-use Rattle.laws.specs.Usual.{_≡_, sym, ap, _∙_, true, false, needs}
+use Rattle.laws.specs.Usual.{_≡_, sym, ap, _∙_, true, false}
 use Rattle.boundary_answers.specs.Numbers.{switchedAnswer}
 use Rattle.boundary_core.specs.Crossing.{phaseOf, coreOf, stationIn}
 use Rattle.frame.specs.declared.Refusal.the-variants.{NotDue}
@@ -10,13 +10,13 @@ use Rattle.boundary_running.proofs.stop.Statement.{statement}
 use Rattle.boundary_running.proofs.stop.Tie as tie
 
 phase-of-requires : tie.Need-phase-of-requires
-phase-of-requires c κs = search needs
+phase-of-requires c κs = tt
 
 is-off-requires : tie.Need-is-off-requires
-is-off-requires c κs = search needs
+is-off-requires c κs = tt
 
 refuse-requires : tie.Need-refuse-requires
-refuse-requires c κs = search needs
+refuse-requires c κs = tt
 
 returns : tie.Need-returns
 returns c =
@@ -29,10 +29,10 @@ returns c =
     )
 
 turn-off-requires : tie.Need-turn-off-requires
-turn-off-requires c κs = search needs
+turn-off-requires c κs = tt
 
 done-requires : tie.Need-done-requires
-done-requires c κs = search needs
+done-requires c κs = tt
 
 returns-2 : tie.Need-returns-2
 returns-2 c =

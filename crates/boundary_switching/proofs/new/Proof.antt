@@ -1,5 +1,5 @@
 -- `boundary_switching::new` meets its contract.
-use Rattle.laws.specs.Usual.{replicate, needs}
+use Rattle.laws.specs.Usual.{replicate}
 use Rattle.boundary_places.specs.Laws.{put-in}
 use Rattle.boundary_places.specs.Places.{kept}
 use Rattle.station.specs.Rules.State.{never}
@@ -7,10 +7,10 @@ use Rattle.boundary_switching.proofs.new.Statement.{statement}
 use Rattle.boundary_switching.proofs.new.Tie as tie
 
 new-requires : tie.Need-new-requires
-new-requires c κs = search needs
+new-requires c κs = tt
 
 keep-requires : tie.Need-keep-requires
-keep-requires c κs = search needs
+keep-requires c κs = tt
 
 returns : tie.Need-returns
 unfolding kept

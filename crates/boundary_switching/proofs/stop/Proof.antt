@@ -1,5 +1,4 @@
 -- `boundary_switching::stop` meets its contract.
-use Rattle.laws.specs.Usual.{needs}
 use Rattle.boundary_answers.specs.Numbers.{switchedAnswer}
 use Rattle.boundary_core.specs.Crossing.{stationIn}
 use Rattle.boundary_core.specs.declared.Core.{Core}
@@ -9,13 +8,13 @@ use Rattle.boundary_switching.proofs.stop.Statement.{statement}
 use Rattle.boundary_switching.proofs.stop.Tie as tie
 
 core-in-requires : tie.Need-core-in-requires
-core-in-requires c κs = search needs
+core-in-requires c κs = tt
 
 stop-requires : tie.Need-stop-requires
-stop-requires c κs = search needs
+stop-requires c κs = tt
 
 keep-outcome-requires : tie.Need-keep-outcome-requires
-keep-outcome-requires c κs = search needs
+keep-outcome-requires c κs = tt
 
 returns : tie.Need-returns
 returns c =

@@ -1,10 +1,9 @@
 -- `boundary_told::route_of` meets its contract.
-use borrow.Author.Needs.{needs}
 use Rattle.boundary_told.proofs.route_of.Statement.{statement}
 use Rattle.boundary_told.proofs.route_of.Tie as tie
 
 number-of-code-requires : tie.Need-number-of-code-requires
-number-of-code-requires c κs = search needs
+number-of-code-requires c κs = tt
 
 returns : tie.Need-returns
 returns c = rw (c .number-of-code .ensures)

@@ -1,10 +1,9 @@
 -- `boundary_told::tell_header` meets its contract.
-use borrow.Author.Needs.{needs}
 use Rattle.boundary_told.proofs.tell_header.Statement.{statement}
 use Rattle.boundary_told.proofs.tell_header.Tie as tie
 
 route-read-requires : tie.Need-route-read-requires
-route-read-requires c κs = search needs
+route-read-requires c κs = tt
 
 returns : tie.Need-returns
 returns c = rw (c .route-read .ensures)

@@ -1,10 +1,9 @@
 -- `boundary_told::tell_read` meets its contract.
-use borrow.Author.Needs.{needs}
 use Rattle.boundary_told.proofs.tell_read.Statement.{statement}
 use Rattle.boundary_told.proofs.tell_read.Tie as tie
 
 route-of-requires : tie.Need-route-of-requires
-route-of-requires c κs = search needs
+route-of-requires c κs = tt
 
 returns : tie.Need-returns
 returns c = rw (c .route-of .ensures)

@@ -1,11 +1,10 @@
 -- `boundary_told::tell_written` meets its contract.
 use borrow.Author.Tests.{eq-eqb, ne-eqb}
-use borrow.Author.Needs.{needs}
 use Rattle.boundary_told.proofs.tell_written.Statement.{statement}
 use Rattle.boundary_told.proofs.tell_written.Tie as tie
 
 route-in-requires : tie.Need-route-in-requires
-route-in-requires c κs = search needs
+route-in-requires c κs = tt
 
 returns : tie.Need-returns
 returns c = rw (c .route-in .ensures, eq-eqb _ _ (c .before .if1 .taken))

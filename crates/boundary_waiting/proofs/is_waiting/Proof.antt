@@ -1,13 +1,12 @@
 -- `boundary_waiting::is_waiting` meets its contract.
-use borrow.Author.Needs.{needs}
 use Rattle.boundary_waiting.proofs.is_waiting.Statement.{statement}
 use Rattle.boundary_waiting.proofs.is_waiting.Tie as tie
 
 startup-ends-requires : tie.Need-startup-ends-requires
-startup-ends-requires c κs = search needs
+startup-ends-requires c κs = tt
 
 joining-ends-requires : tie.Need-joining-ends-requires
-joining-ends-requires c κs = search needs
+joining-ends-requires c κs = tt
 
 returns : tie.Need-returns
 returns c = rw (c .joining-ends .ensures, c .before .before .startup-ends .ensures)

@@ -1,16 +1,15 @@
 -- `boundary_waiting::startup_ends` meets its contract.
-use borrow.Author.Needs.{needs}
 use Rattle.boundary_waiting.proofs.startup_ends.Statement.{statement}
 use Rattle.boundary_waiting.proofs.startup_ends.Tie as tie
 
 acceptance-time-requires : tie.Need-acceptance-time-requires
-acceptance-time-requires c κs = search needs
+acceptance-time-requires c κs = tt
 
 later-requires : tie.Need-later-requires
-later-requires c κs = search needs
+later-requires c κs = tt
 
 wait-ends-requires : tie.Need-wait-ends-requires
-wait-ends-requires c κs = search needs
+wait-ends-requires c κs = tt
 
 returns : tie.Need-returns
 returns c = rw (c .wait-ends .ensures, c .before .before .before .later .ensures, c .before .before .before .before .acceptance-time .ensures)

@@ -1,11 +1,11 @@
 -- `boundary_waiting::waited_by` meets its contract.
-use Rattle.laws.specs.Usual.{_∙_, needs}
+use Rattle.laws.specs.Usual.{_∙_}
 use borrow.Author.Tests.{eq-eqb, ne-eqb}
 use Rattle.boundary_waiting.proofs.waited_by.Statement.{statement}
 use Rattle.boundary_waiting.proofs.waited_by.Tie as tie
 
 waited-then-requires : tie.Need-waited-then-requires
-waited-then-requires c κs = search needs
+waited-then-requires c κs = tt
 
 returns : tie.Need-returns
 returns c = c .waited-then .ensures ∙ rw (eq-eqb _ _ (c .before .if1 .taken))

@@ -14,7 +14,7 @@ slice-aggregate-decode-all-2 : tie.Need-slice-aggregate-decode-all-2
 slice-aggregate-decode-all-2 c = search needs
 
 decode-all-requires : tie.Need-decode-all-requires
-decode-all-requires c κs = search needs
+decode-all-requires c κs = tt
 
 returns : tie.Need-returns
 returns c = (c .before .before .decode-all .ensures .0, ap (λ (state : Carried). state .line) (c .before .before .decode-all .ensures .1))

@@ -7,7 +7,7 @@ use Rattle.decode.proofs.decode_some.Statement.{statement}
 use Rattle.decode.proofs.decode_some.Tie as tie
 
 read-some-requires : tie.Need-read-some-requires
-read-some-requires c κs = search needs
+read-some-requires c κs = tt
 
 sub-decode-part : tie.Need-sub-decode-part
 sub-decode-part c = search needs
@@ -19,7 +19,7 @@ part-decode-part-end : tie.Need-part-decode-part-end
 part-decode-part-end c = search needs
 
 decode-part-requires : tie.Need-decode-part-requires
-decode-part-requires c κs = search needs
+decode-part-requires c κs = tt
 
 same-length : tie.Need-same-length
 same-length c = search needs

@@ -6,10 +6,10 @@ use Rattle.decode.proofs.main.Statement.{statement}
 use Rattle.decode.proofs.main.Tie as tie
 
 decode-input-requires : tie.Need-decode-input-requires
-decode-input-requires c κs = search needs
+decode-input-requires c κs = tt
 
 put-rest-requires : tie.Need-put-rest-requires
-put-rest-requires c κs = search needs
+put-rest-requires c κs = tt
 
 sub-write-rest : tie.Need-sub-write-rest
 sub-write-rest c = search needs

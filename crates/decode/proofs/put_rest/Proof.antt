@@ -1,15 +1,15 @@
 -- `decode::put_rest` meets its contract.
-use Rattle.laws.specs.Usual.{_≡_, refl, sym, _∙_, true, false, needs}
+use Rattle.laws.specs.Usual.{_≡_, refl, sym, _∙_, true, false}
 use Rattle.copying.specs.Laws.{paste-nothing}
 use Rattle.decode_line.specs.Gathering.{begun}
 use Rattle.decode.proofs.put_rest.Statement.{statement}
 use Rattle.decode.proofs.put_rest.Tie as tie
 
 has-begun-requires : tie.Need-has-begun-requires
-has-begun-requires c κs = search needs
+has-begun-requires c κs = tt
 
 put-answer-requires : tie.Need-put-answer-requires
-put-answer-requires c κs = search needs
+put-answer-requires c κs = tt
 
 returns : tie.Need-returns
 returns c =

@@ -11,7 +11,7 @@ cast-t7 : tie.Need-cast-t7
 cast-t7 c = search needs
 
 number-of-code-requires : tie.Need-number-of-code-requires
-number-of-code-requires c κs = search needs
+number-of-code-requires c κs = tt
 
 cast-t9 : tie.Need-cast-t9
 cast-t9 c = search needs

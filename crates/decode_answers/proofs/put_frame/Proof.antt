@@ -7,7 +7,7 @@ use Rattle.decode_answers.proofs.put_frame.Statement.{statement}
 use Rattle.decode_answers.proofs.put_frame.Tie as tie
 
 field-numbers-requires : tie.Need-field-numbers-requires
-field-numbers-requires c κs = search needs
+field-numbers-requires c κs = tt
 
 slice-aggregate-put-line : tie.Need-slice-aggregate-put-line
 slice-aggregate-put-line c = search needs

@@ -7,7 +7,7 @@ use Rattle.decode_answers.proofs.put_refused.Statement.{statement}
 use Rattle.decode_answers.proofs.put_refused.Tie as tie
 
 number-of-requires : tie.Need-number-of-requires
-number-of-requires c κs = search needs
+number-of-requires c κs = tt
 
 cast-t6 : tie.Need-cast-t6
 cast-t6 c = search needs

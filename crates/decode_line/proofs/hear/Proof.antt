@@ -16,10 +16,10 @@ part-read-frame-end : tie.Need-part-read-frame-end
 part-read-frame-end c = search needs
 
 read-frame-requires : tie.Need-read-frame-requires
-read-frame-requires c κs = search needs
+read-frame-requires c κs = tt
 
 read-frame-requires-2 : tie.Need-read-frame-requires-2
-read-frame-requires-2 c κs = search needs
+read-frame-requires-2 c κs = tt
 
 returns : tie.Need-returns
 returns c = let a = c .before .before .before .before .args in c .read-frame .ensures ∙ ap (λ (k : ℕ). readOf (take k (a .buffer .now))) (sub-zero (a .count))

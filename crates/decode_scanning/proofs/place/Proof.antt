@@ -10,7 +10,7 @@ enum-known-pending : tie.Need-enum-known-pending
 enum-known-pending c = search needs
 
 octet-of-requires : tie.Need-octet-of-requires
-octet-of-requires c κs = search needs
+octet-of-requires c κs = tt
 
 store-requires : tie.Need-store-requires
 store-requires c κs = search needs

@@ -4,13 +4,13 @@ use Rattle.decode_scanning.proofs.push.Statement.{statement}
 use Rattle.decode_scanning.proofs.push.Tie as tie
 
 digit-of-requires : tie.Need-digit-of-requires
-digit-of-requires c κs = search needs
+digit-of-requires c κs = tt
 
 enum-known-digit : tie.Need-enum-known-digit
 enum-known-digit c = search needs
 
 place-requires : tie.Need-place-requires
-place-requires c κs = search needs
+place-requires c κs = tt
 
 enum-told : tie.Need-enum-told
 enum-told c = search needs

@@ -1,13 +1,13 @@
 -- `falling_due::ours_due` meets its contract.
-use Rattle.laws.specs.Usual.{_∙_, needs}
+use Rattle.laws.specs.Usual.{_∙_}
 use Rattle.falling_due.proofs.ours_due.Statement.{statement}
 use Rattle.falling_due.proofs.ours_due.Tie as tie
 
 request-fallen-requires : tie.Need-request-fallen-requires
-request-fallen-requires c κs = search needs
+request-fallen-requires c κs = tt
 
 no-areas-requires : tie.Need-no-areas-requires
-no-areas-requires c κs = search needs
+no-areas-requires c κs = tt
 
 returns : tie.Need-returns
 returns c = rw (← c .before .before .request-fallen .ensures, c .before .if1 .taken)

@@ -1,13 +1,12 @@
 -- `falling_due::own_due` meets its contract.
-use borrow.Author.Needs.{needs}
 use Rattle.falling_due.proofs.own_due.Statement.{statement}
 use Rattle.falling_due.proofs.own_due.Tie as tie
 
 overlaps-listed-requires : tie.Need-overlaps-listed-requires
-overlaps-listed-requires c κs = search needs
+overlaps-listed-requires c κs = tt
 
 bare-requires : tie.Need-bare-requires
-bare-requires c κs = search needs
+bare-requires c κs = tt
 
 returns : tie.Need-returns
 returns c = rw (c .before .bare .ensures, ← c .before .before .before .overlaps-listed .ensures, c .before .before .if1 .taken)

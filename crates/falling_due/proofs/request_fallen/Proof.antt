@@ -4,7 +4,7 @@ use Rattle.falling_due.proofs.request_fallen.Statement.{statement}
 use Rattle.falling_due.proofs.request_fallen.Tie as tie
 
 number-wait-requires : tie.Need-number-wait-requires
-number-wait-requires c κs = search needs
+number-wait-requires c κs = tt
 
 enum-told : tie.Need-enum-told
 enum-told c = search needs

@@ -1,10 +1,9 @@
 -- `falling_due::trigger_due` meets its contract.
-use borrow.Author.Needs.{needs}
 use Rattle.falling_due.proofs.trigger_due.Statement.{statement}
 use Rattle.falling_due.proofs.trigger_due.Tie as tie
 
 listening-time-requires : tie.Need-listening-time-requires
-listening-time-requires c κs = search needs
+listening-time-requires c κs = tt
 
 returns : tie.Need-returns
 returns c = rw (c .before .before .listening-time .ensures)

@@ -8,10 +8,10 @@ use Rattle.frame_body.proofs.data_of.Statement.{statement}
 use Rattle.frame_body.proofs.data_of.Tie as tie
 
 data-size-requires : tie.Need-data-size-requires
-data-size-requires c κs = search needs
+data-size-requires c κs = tt
 
 header-part-requires : tie.Need-header-part-requires
-header-part-requires c κs = search needs
+header-part-requires c κs = tt
 
 sub-result : tie.Need-sub-result
 sub-result c = search needs

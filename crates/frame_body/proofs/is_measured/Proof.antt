@@ -7,13 +7,13 @@ cast-size : tie.Need-cast-size
 cast-size c = search needs
 
 block-length-requires : tie.Need-block-length-requires
-block-length-requires c κs = search needs
+block-length-requires c κs = tt
 
 cast-header-part : tie.Need-cast-header-part
 cast-header-part c = search needs
 
 header-part-requires : tie.Need-header-part-requires
-header-part-requires c κs = search needs
+header-part-requires c κs = tt
 
 returns : tie.Need-returns
 returns c = rw (c .before .before .block-length .ensures, c .header-part .ensures)

@@ -1,13 +1,13 @@
 -- `frame_body::is_ranged` meets its contract.
-use Rattle.laws.specs.Usual.{ap₂, Bool, not, _||_, needs}
+use Rattle.laws.specs.Usual.{ap₂, Bool, not, _||_}
 use Rattle.frame_body.proofs.is_ranged.Statement.{statement}
 use Rattle.frame_body.proofs.is_ranged.Tie as tie
 
 carries-areas-requires : tie.Need-carries-areas-requires
-carries-areas-requires c κs = search needs
+carries-areas-requires c κs = tt
 
 in-range-requires : tie.Need-in-range-requires
-in-range-requires c κs = search needs
+in-range-requires c κs = tt
 
 returns : tie.Need-returns
 returns c = ap₂ (λ (carries within : Bool). not carries || within) (c .before .carries-areas .ensures) (c .in-range .ensures)

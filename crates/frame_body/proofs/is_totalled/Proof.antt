@@ -7,7 +7,7 @@ cast-result : tie.Need-cast-result
 cast-result c = search needs
 
 blocks-requires : tie.Need-blocks-requires
-blocks-requires c κs = search needs
+blocks-requires c κs = tt
 
 returns : tie.Need-returns
 returns c = rw (c .blocks2 .ensures)

@@ -5,13 +5,13 @@ use Rattle.frame_body.proofs.read_frame.Statement.{statement}
 use Rattle.frame_body.proofs.read_frame.Tie as tie
 
 read-header-requires : tie.Need-read-header-requires
-read-header-requires c κs = search needs
+read-header-requires c κs = tt
 
 enum-known-fields : tie.Need-enum-known-fields
 enum-known-fields c = search needs
 
 read-body-requires : tie.Need-read-body-requires
-read-body-requires c κs = search needs
+read-body-requires c κs = tt
 
 enum-known-refusal : tie.Need-enum-known-refusal
 enum-known-refusal c = search needs

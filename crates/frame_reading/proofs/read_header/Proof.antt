@@ -52,7 +52,7 @@ word-at-requires : tie.Need-word-at-requires
 word-at-requires c κs = search needs
 
 code-of-requires : tie.Need-code-of-requires
-code-of-requires c κs = search needs
+code-of-requires c κs = tt
 
 enum-known-coded : tie.Need-enum-known-coded
 enum-known-coded c = search needs
@@ -70,7 +70,7 @@ fields-of-requires : tie.Need-fields-of-requires
 fields-of-requires c κs = search needs
 
 is-addressed-requires : tie.Need-is-addressed-requires
-is-addressed-requires c κs = search needs
+is-addressed-requires c κs = tt
 
 returns-6 : tie.Need-returns-6
 returns-6 c =

@@ -1,12 +1,12 @@
 -- `frame_whole_writing::fixed_cyclic` meets its contract.
-use Rattle.laws.specs.Usual.{arith, needs}
+use Rattle.laws.specs.Usual.{arith}
 use Rattle.frame_whole_writing.proofs.Sizes.{data-within}
 use Rattle.frame_writing.specs.Writing.{fixedFor}
 use Rattle.frame_whole_writing.proofs.fixed_cyclic.Statement.{statement}
 use Rattle.frame_whole_writing.proofs.fixed_cyclic.Tie as tie
 
 whole-length-requires : tie.Need-whole-length-requires
-whole-length-requires c κs = search needs
+whole-length-requires c κs = tt
 
 cast-fixed : tie.Need-cast-fixed
 cast-fixed c = omega (arith, data-within (c .before .args .fields))

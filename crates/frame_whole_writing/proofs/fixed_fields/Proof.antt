@@ -9,25 +9,25 @@ enum-told : tie.Need-enum-told
 enum-told c = search needs
 
 fixed-cyclic-requires : tie.Need-fixed-cyclic-requires
-fixed-cyclic-requires c κs = search needs
+fixed-cyclic-requires c κs = tt
 
 enum-told-2 : tie.Need-enum-told-2
 enum-told-2 c = search needs
 
 fixed-cyclic-requires-2 : tie.Need-fixed-cyclic-requires-2
-fixed-cyclic-requires-2 c κs = search needs
+fixed-cyclic-requires-2 c κs = tt
 
 enum-told-3 : tie.Need-enum-told-3
 enum-told-3 c = search needs
 
 fixed-request-requires : tie.Need-fixed-request-requires
-fixed-request-requires c κs = search needs
+fixed-request-requires c κs = tt
 
 enum-told-4 : tie.Need-enum-told-4
 enum-told-4 c = search needs
 
 fixed-trigger-requires : tie.Need-fixed-trigger-requires
-fixed-trigger-requires c κs = search needs
+fixed-trigger-requires c κs = tt
 
 returns : tie.Need-returns
 unfolding fixedFor

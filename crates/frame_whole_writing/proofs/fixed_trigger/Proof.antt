@@ -1,11 +1,10 @@
 -- `frame_whole_writing::fixed_trigger` meets its contract.
 use Rattle.frame_writing.specs.Writing.{fixedFor}
-use borrow.Author.Needs.{needs}
 use Rattle.frame_whole_writing.proofs.fixed_trigger.Statement.{statement}
 use Rattle.frame_whole_writing.proofs.fixed_trigger.Tie as tie
 
 fixed-request-requires : tie.Need-fixed-request-requires
-fixed-request-requires c κs = search needs
+fixed-request-requires c κs = tt
 
 returns : tie.Need-returns
 unfolding fixedFor

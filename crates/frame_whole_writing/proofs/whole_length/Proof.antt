@@ -5,7 +5,7 @@ use Rattle.frame_whole_writing.proofs.whole_length.Statement.{statement
 use Rattle.frame_whole_writing.proofs.whole_length.Tie as tie
 
 data-size-requires : tie.Need-data-size-requires
-data-size-requires c κs = search needs
+data-size-requires c κs = tt
 
 add-result : tie.Need-add-result
 add-result c = omega (arith, data-within (c .before .args .fields))

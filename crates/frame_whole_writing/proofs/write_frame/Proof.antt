@@ -12,10 +12,10 @@ use Rattle.frame_whole_writing.proofs.write_frame.Statement.{statement}
 use Rattle.frame_whole_writing.proofs.write_frame.Tie as tie
 
 data-size-requires : tie.Need-data-size-requires
-data-size-requires c κs = search needs
+data-size-requires c κs = tt
 
 whole-length-requires : tie.Need-whole-length-requires
-whole-length-requires c κs = search needs
+whole-length-requires c κs = tt
 
 returns : tie.Need-returns
 returns c =
@@ -31,7 +31,7 @@ returns-2 c =
     (simp (le-leb _ _ enough, lt-leb _ _ short), simp (le-leb _ _ enough, lt-leb _ _ short))
 
 fixed-fields-requires : tie.Need-fixed-fields-requires
-fixed-fields-requires c κs = search needs
+fixed-fields-requires c κs = tt
 
 write-header-requires : tie.Need-write-header-requires
 write-header-requires c κs = search needs

@@ -5,7 +5,7 @@ use Rattle.frame_writing.proofs.header_back.Statement.{statement}
 use Rattle.frame_writing.proofs.header_back.Tie as tie
 
 number-of-code-requires : tie.Need-number-of-code-requires
-number-of-code-requires c κs = search needs
+number-of-code-requires c κs = tt
 
 cast-t8 : tie.Need-cast-t8
 cast-t8 c = search needs

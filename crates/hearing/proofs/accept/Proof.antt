@@ -7,10 +7,10 @@ use Rattle.hearing.proofs.accept.Statement.{statement}
 use Rattle.hearing.proofs.accept.Tie as tie
 
 is-participating-requires : tie.Need-is-participating-requires
-is-participating-requires c κs = search needs
+is-participating-requires c κs = tt
 
 is-cyclic-requires : tie.Need-is-cyclic-requires
-is-cyclic-requires c κs = search needs
+is-cyclic-requires c κs = tt
 
 participant-hears-requires : tie.Need-participant-hears-requires
 participant-hears-requires c κs =
@@ -31,10 +31,10 @@ returns c =
     (done .0 ∙ rw held, (done .1 .0 ∙ rw held, (done .1 .1 .0 ∙ rw held, done .1 .1 .1 ∙ rw held)))
 
 answer-requires : tie.Need-answer-requires
-answer-requires c κs = search needs
+answer-requires c κs = tt
 
 enter-requires : tie.Need-enter-requires
-enter-requires c κs = search needs
+enter-requires c κs = tt
 
 returns-2 : tie.Need-returns-2
 returns-2 c =

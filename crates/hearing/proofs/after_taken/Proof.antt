@@ -1,13 +1,13 @@
 -- `hearing::after_taken` meets its contract.
-use Rattle.laws.specs.Usual.{_∙_, needs}
+use Rattle.laws.specs.Usual.{_∙_}
 use Rattle.hearing.proofs.after_taken.Statement.{statement}
 use Rattle.hearing.proofs.after_taken.Tie as tie
 
 is-participating-requires : tie.Need-is-participating-requires
-is-participating-requires c κs = search needs
+is-participating-requires c κs = tt
 
 stopped-requires : tie.Need-stopped-requires
-stopped-requires c κs = search needs
+stopped-requires c κs = tt
 
 returns : tie.Need-returns
 returns c = rw (← c .before .is-participating .ensures, c .if1 .taken)

@@ -4,10 +4,10 @@ use Rattle.hearing.proofs.hear_body.Statement.{statement}
 use Rattle.hearing.proofs.hear_body.Tie as tie
 
 is-stranger-requires : tie.Need-is-stranger-requires
-is-stranger-requires c κs = search needs
+is-stranger-requires c κs = tt
 
 refused-requires : tie.Need-refused-requires
-refused-requires c κs = search needs
+refused-requires c κs = tt
 
 returns : tie.Need-returns
 returns c =

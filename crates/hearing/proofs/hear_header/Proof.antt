@@ -5,13 +5,13 @@ use Rattle.hearing.proofs.hear_header.Statement.{statement}
 use Rattle.hearing.proofs.hear_header.Tie as tie
 
 is-taken-requires : tie.Need-is-taken-requires
-is-taken-requires c κs = search needs
+is-taken-requires c κs = tt
 
 after-taken-requires : tie.Need-after-taken-requires
-after-taken-requires c κs = search needs
+after-taken-requires c κs = tt
 
 refused-requires : tie.Need-refused-requires
-refused-requires c κs = search needs
+refused-requires c κs = tt
 
 returns : tie.Need-returns
 returns c =
@@ -20,7 +20,7 @@ returns c =
     (done .0 ∙ rw (c .before .after-taken .ensures, taken), (done .1 ∙ rw taken, (rw taken, rw taken)))
 
 read-body-requires : tie.Need-read-body-requires
-read-body-requires c κs = search needs
+read-body-requires c κs = tt
 
 enum-known-body : tie.Need-enum-known-body
 enum-known-body c = search needs
@@ -34,7 +34,7 @@ enum-known-refusal : tie.Need-enum-known-refusal
 enum-known-refusal c = search needs
 
 refused-requires-2 : tie.Need-refused-requires-2
-refused-requires-2 c κs = search needs
+refused-requires-2 c κs = tt
 
 same-length : tie.Need-same-length
 same-length c = search needs

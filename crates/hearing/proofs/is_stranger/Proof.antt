@@ -1,22 +1,21 @@
 -- `hearing::is_stranger` meets its contract.
-use borrow.Author.Needs.{needs}
 use Rattle.hearing.proofs.is_stranger.Statement.{statement}
 use Rattle.hearing.proofs.is_stranger.Tie as tie
 
 is-participating-requires : tie.Need-is-participating-requires
-is-participating-requires c κs = search needs
+is-participating-requires c κs = tt
 
 is-cyclic-requires : tie.Need-is-cyclic-requires
-is-cyclic-requires c κs = search needs
+is-cyclic-requires c κs = tt
 
 knows-requires : tie.Need-knows-requires
-knows-requires c κs = search needs
+knows-requires c κs = tt
 
 is-token-requires : tie.Need-is-token-requires
-is-token-requires c κs = search needs
+is-token-requires c κs = tt
 
 knows-requires-2 : tie.Need-knows-requires-2
-knows-requires-2 c κs = search needs
+knows-requires-2 c κs = tt
 
 returns : tie.Need-returns
 returns c = rw (c .knows2 .ensures, c .before .is-token .ensures, c .before .before .knows .ensures, c .before .before .before .is-cyclic .ensures, c .before .before .before .before .is-participating .ensures)

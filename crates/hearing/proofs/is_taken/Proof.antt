@@ -1,10 +1,9 @@
 -- `hearing::is_taken` meets its contract.
-use borrow.Author.Needs.{needs}
 use Rattle.hearing.proofs.is_taken.Statement.{statement}
 use Rattle.hearing.proofs.is_taken.Tie as tie
 
 is-off-requires : tie.Need-is-off-requires
-is-off-requires c κs = search needs
+is-off-requires c κs = tt
 
 returns : tie.Need-returns
 returns c = rw (c .before .before .is-off .ensures)

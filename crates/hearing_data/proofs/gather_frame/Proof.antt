@@ -7,7 +7,7 @@ use Rattle.hearing_data.proofs.gather_frame.Statement.{statement}
 use Rattle.hearing_data.proofs.gather_frame.Tie as tie
 
 data-of-requires : tie.Need-data-of-requires
-data-of-requires c κs = search needs
+data-of-requires c κs = tt
 
 gather-requires : tie.Need-gather-requires
 gather-requires c κs =

@@ -10,13 +10,13 @@ enum-told : tie.Need-enum-told
 enum-told c = search needs
 
 join-requires : tie.Need-join-requires
-join-requires c κs = search needs
+join-requires c κs = tt
 
 enum-told-2 : tie.Need-enum-told-2
 enum-told-2 c = search needs
 
 join-requires-2 : tie.Need-join-requires-2
-join-requires-2 c κs = search needs
+join-requires-2 c κs = tt
 
 enum-told-3 : tie.Need-enum-told-3
 enum-told-3 c = search needs

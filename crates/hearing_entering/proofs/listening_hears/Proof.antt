@@ -10,7 +10,7 @@ enum-told : tie.Need-enum-told
 enum-told c = search needs
 
 begin-joining-requires : tie.Need-begin-joining-requires
-begin-joining-requires c κs = search needs
+begin-joining-requires c κs = tt
 
 enum-told-2 : tie.Need-enum-told-2
 enum-told-2 c = search needs
@@ -22,7 +22,7 @@ enum-told-4 : tie.Need-enum-told-4
 enum-told-4 c = search needs
 
 fresh-requires : tie.Need-fresh-requires
-fresh-requires c κs = search needs
+fresh-requires c κs = tt
 
 returns : tie.Need-returns
 returns c = c .begin-joining .ensures ∙ sym (ap (λ (code : Code). enters Listening code (c .before .before .before .before .args .station) (c .before .before .before .before .args .frame)) (c .before .enum-told .given .1))

@@ -8,7 +8,7 @@ write-turn-requires : tie.Need-write-turn-requires
 write-turn-requires c κs = search needs
 
 nothing-requires : tie.Need-nothing-requires
-nothing-requires c κs = search needs
+nothing-requires c κs = tt
 
 same-length : tie.Need-same-length
 same-length c = search needs

@@ -36,13 +36,13 @@ same-assembly listed frame assembly memory = by (eqb (frame .block) (frame .bloc
     by false = refl
 
 same-areas-requires : tie.Need-same-areas-requires
-same-areas-requires c κs = search needs
+same-areas-requires c κs = tt
 
 is-next-requires : tie.Need-is-next-requires
-is-next-requires c κs = search needs
+is-next-requires c κs = tt
 
 block-start-requires : tie.Need-block-start-requires
-block-start-requires c κs = search needs
+block-start-requires c κs = tt
 
 copy-into-requires : tie.Need-copy-into-requires
 copy-into-requires c κs = search needs
@@ -69,7 +69,7 @@ returns c =
     (ended .0 ∙ rw (stored, held), (ended .1 .0 ∙ rw (stored, held), (stored ∙ rw held (sym (same-assembly (a .listed) (a .frame) _ (a .memory .now))), ended .1 .1 ∙ rw (stored, held))))
 
 nothing-requires : tie.Need-nothing-requires
-nothing-requires c κs = search needs
+nothing-requires c κs = tt
 
 returns-2 : tie.Need-returns-2
 returns-2 c =

@@ -1,13 +1,12 @@
 -- `hearing_gathering::same_areas` meets its contract.
-use borrow.Author.Needs.{needs}
 use Rattle.hearing_gathering.proofs.same_areas.Statement.{statement}
 use Rattle.hearing_gathering.proofs.same_areas.Tie as tie
 
 same-part-requires : tie.Need-same-part-requires
-same-part-requires c κs = search needs
+same-part-requires c κs = tt
 
 same-part-requires-2 : tie.Need-same-part-requires-2
-same-part-requires-2 c κs = search needs
+same-part-requires-2 c κs = tt
 
 returns : tie.Need-returns
 returns c = rw (c .same-part2 .ensures, c .before .same-part .ensures)

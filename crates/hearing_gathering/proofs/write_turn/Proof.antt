@@ -30,10 +30,10 @@ written areas one two turn memory first second p q e f =
     f ∙ rw (e, p, q, whole, rest)
 
 span-of-requires : tie.Need-span-of-requires
-span-of-requires c κs = search needs
+span-of-requires c κs = tt
 
 span-of-requires-2 : tie.Need-span-of-requires-2
-span-of-requires-2 c κs = search needs
+span-of-requires-2 c κs = tt
 
 add-end : tie.Need-add-end
 add-end c =

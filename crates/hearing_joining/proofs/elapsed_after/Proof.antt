@@ -4,7 +4,7 @@ use Rattle.hearing_joining.proofs.elapsed_after.Statement.{statement}
 use Rattle.hearing_joining.proofs.elapsed_after.Tie as tie
 
 is-token-requires : tie.Need-is-token-requires
-is-token-requires c κs = search needs
+is-token-requires c κs = tt
 
 returns : tie.Need-returns
 returns c = rw (← c .before .is-token .ensures, c .if1 .taken)

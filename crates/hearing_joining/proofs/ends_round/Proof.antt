@@ -1,10 +1,9 @@
 -- `hearing_joining::ends_round` meets its contract.
-use borrow.Author.Needs.{needs}
 use Rattle.hearing_joining.proofs.ends_round.Statement.{statement}
 use Rattle.hearing_joining.proofs.ends_round.Tie as tie
 
 is-token-requires : tie.Need-is-token-requires
-is-token-requires c κs = search needs
+is-token-requires c κs = tt
 
 returns : tie.Need-returns
 returns c = rw (c .before .is-token .ensures)

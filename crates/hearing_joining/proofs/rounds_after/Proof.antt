@@ -5,7 +5,7 @@ use Rattle.hearing_joining.proofs.rounds_after.Statement.{statement}
 use Rattle.hearing_joining.proofs.rounds_after.Tie as tie
 
 ends-round-requires : tie.Need-ends-round-requires
-ends-round-requires c κs = search needs
+ends-round-requires c κs = tt
 
 returns : tie.Need-returns
 returns c =

@@ -7,22 +7,22 @@ use Rattle.hearing_participant.proofs.participant_hears.Statement.{stat
 use Rattle.hearing_participant.proofs.participant_hears.Tie as tie
 
 entry-of-requires : tie.Need-entry-of-requires
-entry-of-requires c κs = search needs
+entry-of-requires c κs = tt
 
 gather-frame-requires : tie.Need-gather-frame-requires
 gather-frame-requires c κs = search needs
 
 outcome-of-requires : tie.Need-outcome-of-requires
-outcome-of-requires c κs = search needs
+outcome-of-requires c κs = tt
 
 view-heard-requires : tie.Need-view-heard-requires
-view-heard-requires c κs = search needs
+view-heard-requires c κs = tt
 
 clear-requires : tie.Need-clear-requires
-clear-requires c κs = search needs
+clear-requires c κs = tt
 
 restart-requires : tie.Need-restart-requires
-restart-requires c κs = search needs
+restart-requires c κs = tt
 
 same-length : tie.Need-same-length
 same-length c = search needs

@@ -1,14 +1,14 @@
 -- `hearing_token::outcome_of` meets its contract.
-use Rattle.laws.specs.Usual.{sym, _∙_, needs}
+use Rattle.laws.specs.Usual.{sym, _∙_}
 use borrow.Author.Tests.{eq-eqb, ne-eqb, not-true, not-false}
 use Rattle.hearing_token.proofs.outcome_of.Statement.{statement}
 use Rattle.hearing_token.proofs.outcome_of.Tie as tie
 
 view-heard-requires : tie.Need-view-heard-requires
-view-heard-requires c κs = search needs
+view-heard-requires c κs = tt
 
 is-token-requires : tie.Need-is-token-requires
-is-token-requires c κs = search needs
+is-token-requires c κs = tt
 
 returns : tie.Need-returns
 returns c =
@@ -16,7 +16,7 @@ returns c =
     rw plain
 
 takes-requires : tie.Need-takes-requires
-takes-requires c κs = search needs
+takes-requires c κs = tt
 
 returns-2 : tie.Need-returns-2
 returns-2 c = rw (← c .before .before .before .before .view-heard .ensures, ← c .before .before .before .is-token .ensures, not-false (c .before .before .before .is-token .result) (c .before .before .if1 .left), ← c .before .takes .ensures, c .if2 .taken)

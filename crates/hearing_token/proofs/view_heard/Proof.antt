@@ -4,10 +4,10 @@ use Rattle.hearing_token.proofs.view_heard.Statement.{statement}
 use Rattle.hearing_token.proofs.view_heard.Tie as tie
 
 is-token-requires : tie.Need-is-token-requires
-is-token-requires c κs = search needs
+is-token-requires c κs = tt
 
 view-after-requires : tie.Need-view-after-requires
-view-after-requires c κs = search needs
+view-after-requires c κs = tt
 
 returns : tie.Need-returns
 returns c = c .view-after .ensures ∙ rw (← c .before .before .is-token .ensures, c .before .if1 .taken)

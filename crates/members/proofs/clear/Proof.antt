@@ -1,16 +1,16 @@
 -- `members::clear` meets its contract.
-use Rattle.laws.specs.Usual.{_∙_, needs}
+use Rattle.laws.specs.Usual.{_∙_}
 use Rattle.members.proofs.clear.Statement.{statement}
 use Rattle.members.proofs.clear.Tie as tie
 
 entry-of-requires : tie.Need-entry-of-requires
-entry-of-requires c κs = search needs
+entry-of-requires c κs = tt
 
 with-misses-requires : tie.Need-with-misses-requires
-with-misses-requires c κs = search needs
+with-misses-requires c κs = tt
 
 with-entry-requires : tie.Need-with-entry-requires
-with-entry-requires c κs = search needs
+with-entry-requires c κs = tt
 
 returns : tie.Need-returns
 returns c = c .with-entry .ensures ∙ rw (c .before .with-misses .ensures, c .before .before .entry-of .ensures)

@@ -1,5 +1,5 @@
 -- `members::miss` meets its contract.
-use Rattle.laws.specs.Usual.{sym, ap, _∙_, arith, needs}
+use Rattle.laws.specs.Usual.{sym, ap, _∙_, arith}
 use borrow.Author.Tests.{not-true, not-false, leb-false}
 use Rattle.members.specs.Members.{entryOf}
 use Rattle.members.specs.declared.Entry.{Entry}
@@ -7,19 +7,19 @@ use Rattle.members.proofs.miss.Statement.{statement}
 use Rattle.members.proofs.miss.Tie as tie
 
 entry-of-requires : tie.Need-entry-of-requires
-entry-of-requires c κs = search needs
+entry-of-requires c κs = tt
 
 returns : tie.Need-returns
 returns c = rw (← c .before .before .entry-of .ensures, not-true (c .before .before .entry-of .result .listed) (c .if1 .taken))
 
 strikes-requires : tie.Need-strikes-requires
-strikes-requires c κs = search needs
+strikes-requires c κs = tt
 
 unlisted-requires : tie.Need-unlisted-requires
-unlisted-requires c κs = search needs
+unlisted-requires c κs = tt
 
 with-entry-requires : tie.Need-with-entry-requires
-with-entry-requires c κs = search needs
+with-entry-requires c κs = tt
 
 returns-2 : tie.Need-returns-2
 returns-2 c =
@@ -41,10 +41,10 @@ add-with-misses c =
     omega (arith, few, ap (λ (e : Entry). e .misses) (entry .ensures))
 
 with-misses-requires : tie.Need-with-misses-requires
-with-misses-requires c κs = search needs
+with-misses-requires c κs = tt
 
 with-entry-requires-2 : tie.Need-with-entry-requires-2
-with-entry-requires-2 c κs = search needs
+with-entry-requires-2 c κs = tt
 
 returns-3 : tie.Need-returns-3
 returns-3 c =

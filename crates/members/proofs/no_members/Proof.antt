@@ -1,10 +1,9 @@
 -- `members::no_members` meets its contract.
-use borrow.Author.Needs.{needs}
 use Rattle.members.proofs.no_members.Statement.{statement}
 use Rattle.members.proofs.no_members.Tie as tie
 
 unlisted-requires : tie.Need-unlisted-requires
-unlisted-requires c κs = search needs
+unlisted-requires c κs = tt
 
 returns : tie.Need-returns
 returns c = rw (c .unlisted .ensures)

@@ -1,13 +1,13 @@
 -- `members_listing::list` meets its contract.
-use Rattle.laws.specs.Usual.{_∙_, needs}
+use Rattle.laws.specs.Usual.{_∙_}
 use Rattle.members_listing.proofs.list.Statement.{statement}
 use Rattle.members_listing.proofs.list.Tie as tie
 
 listed-areas-requires : tie.Need-listed-areas-requires
-listed-areas-requires c κs = search needs
+listed-areas-requires c κs = tt
 
 with-entry-requires : tie.Need-with-entry-requires
-with-entry-requires c κs = search needs
+with-entry-requires c κs = tt
 
 returns : tie.Need-returns
 returns c = c .with-entry .ensures ∙ rw (c .before .listed-areas .ensures)

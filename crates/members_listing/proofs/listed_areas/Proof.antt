@@ -1,16 +1,16 @@
 -- `members_listing::listed_areas` meets its contract.
-use Rattle.laws.specs.Usual.{_∙_, needs}
+use Rattle.laws.specs.Usual.{_∙_}
 use Rattle.members_listing.proofs.listed_areas.Statement.{statement}
 use Rattle.members_listing.proofs.listed_areas.Tie as tie
 
 overlaps-other-requires : tie.Need-overlaps-other-requires
-overlaps-other-requires c κs = search needs
+overlaps-other-requires c κs = tt
 
 areas-overlap-requires : tie.Need-areas-overlap-requires
-areas-overlap-requires c κs = search needs
+areas-overlap-requires c κs = tt
 
 bare-requires : tie.Need-bare-requires
-bare-requires c κs = search needs
+bare-requires c κs = tt
 
 returns : tie.Need-returns
 returns c = c .bare .ensures ∙ rw (← c .before .before .before .overlaps-other .ensures, ← c .before .before .areas-overlap .ensures, c .before .if1 .taken)

@@ -22,7 +22,7 @@ array-copy-out-entry : tie.Need-array-copy-out-entry Inv-loop μ-loop
 array-copy-out-entry c = search needs
 
 areas-overlap-requires : tie.Need-areas-overlap-requires Inv-loop μ-loop
-areas-overlap-requires c κs = search needs
+areas-overlap-requires c κs = tt
 
 returns : tie.Need-returns Inv-loop μ-loop
 returns c =

@@ -12,16 +12,16 @@ first-listed-requires : tie.Need-first-listed-requires
 first-listed-requires c κs = search needs
 
 number-or-requires : tie.Need-number-or-requires
-number-or-requires c κs = search needs
+number-or-requires c κs = tt
 
 smaller-requires : tie.Need-smaller-requires
-smaller-requires c κs = search needs
+smaller-requires c κs = tt
 
 smallest-requires : tie.Need-smallest-requires
-smallest-requires c κs = search needs
+smallest-requires c κs = tt
 
 number-or-requires-2 : tie.Need-number-or-requires-2
-number-or-requires-2 c κs = search needs
+number-or-requires-2 c κs = tt
 
 returns : tie.Need-returns
 returns c =

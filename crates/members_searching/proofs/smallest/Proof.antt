@@ -8,10 +8,10 @@ first-listed-requires : tie.Need-first-listed-requires
 first-listed-requires c κs = search needs
 
 number-or-requires : tie.Need-number-or-requires
-number-or-requires c κs = search needs
+number-or-requires c κs = tt
 
 smaller-requires : tie.Need-smaller-requires
-smaller-requires c κs = search needs
+smaller-requires c κs = tt
 
 returns : tie.Need-returns
 returns c = c .smaller .ensures ∙ rw (c .before .number-or .ensures, c .before .before .first-listed .ensures, smallest-found)

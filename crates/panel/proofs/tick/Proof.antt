@@ -1,10 +1,9 @@
 -- `panel::tick` meets its contract.
-use borrow.Author.Needs.{needs}
 use Rattle.panel.proofs.tick.Statement.{statement}
 use Rattle.panel.proofs.tick.Tie as tie
 
 count-requires : tie.Need-count-requires
-count-requires c κs = search needs
+count-requires c κs = tt
 
 returns : tie.Need-returns
 returns c = rw (c .before .count .ensures)

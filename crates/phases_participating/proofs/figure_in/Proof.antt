@@ -1,13 +1,13 @@
 -- `phases_participating::figure_in` meets its contract.
-use Rattle.laws.specs.Usual.{_∙_, needs}
+use Rattle.laws.specs.Usual.{_∙_}
 use Rattle.phases_participating.proofs.figure_in.Statement.{statement}
 use Rattle.phases_participating.proofs.figure_in.Tie as tie
 
 is-participating-requires : tie.Need-is-participating-requires
-is-participating-requires c κs = search needs
+is-participating-requires c κs = tt
 
 figure-of-requires : tie.Need-figure-of-requires
-figure-of-requires c κs = search needs
+figure-of-requires c κs = tt
 
 returns : tie.Need-returns
 returns c = c .figure-of .ensures ∙ rw (← c .before .before .is-participating .ensures, c .before .if1 .taken)

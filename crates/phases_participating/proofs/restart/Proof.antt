@@ -1,16 +1,15 @@
 -- `phases_participating::restart` meets its contract.
-use borrow.Author.Needs.{needs}
 use Rattle.phases_participating.proofs.restart.Statement.{statement}
 use Rattle.phases_participating.proofs.restart.Tie as tie
 
 place-kept-requires : tie.Need-place-kept-requires
-place-kept-requires c κs = search needs
+place-kept-requires c κs = tt
 
 takes-requires : tie.Need-takes-requires
-takes-requires c κs = search needs
+takes-requires c κs = tt
 
 taken-if-requires : tie.Need-taken-if-requires
-taken-if-requires c κs = search needs
+taken-if-requires c κs = tt
 
 returns : tie.Need-returns
 returns c = rw (c .taken-if .ensures, c .before .takes .ensures, c .before .before .place-kept .ensures)

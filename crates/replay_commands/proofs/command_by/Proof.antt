@@ -9,19 +9,19 @@ slice-aggregate-begins : tie.Need-slice-aggregate-begins
 slice-aggregate-begins c = search needs
 
 begins-requires : tie.Need-begins-requires
-begins-requires c κs = search needs
+begins-requires c κs = tt
 
 size-in-requires : tie.Need-size-in-requires
-size-in-requires c κs = search needs
+size-in-requires c κs = tt
 
 hear-of-requires : tie.Need-hear-of-requires
-hear-of-requires c κs = search needs
+hear-of-requires c κs = tt
 
 returns : tie.Need-returns
 returns c = rw (sym (c .before .before .before .begins .ensures) ∙ c .before .before .if1 .taken) (c .hear-of .ensures ∙ ap hearOf (c .before .size-in .ensures))
 
 short-of-requires : tie.Need-short-of-requires
-short-of-requires c κs = search needs
+short-of-requires c κs = tt
 
 returns-2 : tie.Need-returns-2
 returns-2 c = rw (sym (c .before .before .before .before .begins .ensures) ∙ c .before .before .before .if1 .left, le-leb _ _ (c .before .if2 .taken)) (c .short-of .ensures)

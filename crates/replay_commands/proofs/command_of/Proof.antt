@@ -16,10 +16,10 @@ part-command-by-end : tie.Need-part-command-by-end
 part-command-by-end c = search needs
 
 command-by-requires : tie.Need-command-by-requires
-command-by-requires c κs = search needs
+command-by-requires c κs = tt
 
 command-by-requires-2 : tie.Need-command-by-requires-2
-command-by-requires-2 c κs = search needs
+command-by-requires-2 c κs = tt
 
 returns : tie.Need-returns
 returns c = let a = c .before .before .before .before .args in c .command-by .ensures ∙ ap (λ (k : ℕ). commandBy (a .line) (take k (a .buffer .now))) (sub-zero (a .line .count))

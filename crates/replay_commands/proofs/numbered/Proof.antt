@@ -7,10 +7,10 @@ slice-aggregate-begins : tie.Need-slice-aggregate-begins
 slice-aggregate-begins c = search needs
 
 begins-requires : tie.Need-begins-requires
-begins-requires c κs = search needs
+begins-requires c κs = tt
 
 start-of-requires : tie.Need-start-of-requires
-start-of-requires c κs = search needs
+start-of-requires c κs = tt
 
 returns : tie.Need-returns
 returns c = rw ((sym (c .before .before .begins .ensures) ∙ c .before .if1 .taken)) (c .start-of .ensures)
@@ -19,10 +19,10 @@ slice-aggregate-begins-2 : tie.Need-slice-aggregate-begins-2
 slice-aggregate-begins-2 c = search needs
 
 begins-requires-2 : tie.Need-begins-requires-2
-begins-requires-2 c κs = search needs
+begins-requires-2 c κs = tt
 
 tick-of-requires : tie.Need-tick-of-requires
-tick-of-requires c κs = search needs
+tick-of-requires c κs = tt
 
 returns-2 : tie.Need-returns-2
 returns-2 c = rw ((sym (c .before .before .before .before .before .begins .ensures) ∙ c .before .before .before .before .if1 .left), (sym (c .before .before .begins2 .ensures) ∙ c .before .if2 .taken)) (c .tick-of .ensures)
@@ -31,10 +31,10 @@ slice-aggregate-begins-3 : tie.Need-slice-aggregate-begins-3
 slice-aggregate-begins-3 c = search needs
 
 begins-requires-3 : tie.Need-begins-requires-3
-begins-requires-3 c κs = search needs
+begins-requires-3 c κs = tt
 
 poke-of-requires : tie.Need-poke-of-requires
-poke-of-requires c κs = search needs
+poke-of-requires c κs = tt
 
 returns-3 : tie.Need-returns-3
 returns-3 c = rw ((sym (c .before .before .before .before .before .before .before .before .begins .ensures) ∙ c .before .before .before .before .before .before .before .if1 .left), (sym (c .before .before .before .before .before .begins2 .ensures) ∙ c .before .before .before .before .if2 .left), (sym (c .before .before .begins3 .ensures) ∙ c .before .if3 .taken)) (c .poke-of .ensures)
@@ -43,10 +43,10 @@ slice-aggregate-begins-4 : tie.Need-slice-aggregate-begins-4
 slice-aggregate-begins-4 c = search needs
 
 begins-requires-4 : tie.Need-begins-requires-4
-begins-requires-4 c κs = search needs
+begins-requires-4 c κs = tt
 
 peek-of-requires : tie.Need-peek-of-requires
-peek-of-requires c κs = search needs
+peek-of-requires c κs = tt
 
 returns-4 : tie.Need-returns-4
 returns-4 c = rw ((sym (c .before .before .before .before .before .before .before .before .before .before .before .begins .ensures) ∙ c .before .before .before .before .before .before .before .before .before .before .if1 .left), (sym (c .before .before .before .before .before .before .before .before .begins2 .ensures) ∙ c .before .before .before .before .before .before .before .if2 .left), (sym (c .before .before .before .before .before .begins3 .ensures) ∙ c .before .before .before .before .if3 .left), (sym (c .before .before .begins4 .ensures) ∙ c .before .if4 .taken)) (c .peek-of .ensures)

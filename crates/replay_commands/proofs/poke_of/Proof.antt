@@ -76,7 +76,7 @@ module _ (line : List ℕ) (number : Number) (e : number ≡ numberAt line 4) wh
         ∙ ap₂ (λ (at digits : ℕ). pokeBy at digits (length (octetsOf rest))) (sym (read .0)) digits-place
 
 number-at-requires : tie.Need-number-at-requires
-number-at-requires c κs = search needs
+number-at-requires c κs = tt
 
 returns : tie.Need-returns
 returns c = sym (one-word (c .before .before .before .args .line .now) (c .before .number-at .result) (c .before .number-at .ensures) (c .if1 .taken))
@@ -85,7 +85,7 @@ add-digits : tie.Need-add-digits
 add-digits c = search needs
 
 word-end-requires : tie.Need-word-end-requires
-word-end-requires c κs = search needs
+word-end-requires c κs = tt
 
 returns-2 : tie.Need-returns-2
 returns-2 c =
@@ -106,10 +106,10 @@ part-size-of-end : tie.Need-part-size-of-end
 part-size-of-end c = search needs
 
 size-of-requires : tie.Need-size-of-requires
-size-of-requires c κs = search needs
+size-of-requires c κs = tt
 
 poke-by-requires : tie.Need-poke-by-requires
-poke-by-requires c κs = search needs
+poke-by-requires c κs = tt
 
 returns-3 : tie.Need-returns-3
 returns-3 c =

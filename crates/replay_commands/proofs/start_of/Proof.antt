@@ -1,5 +1,5 @@
 -- `replay_commands::start_of` meets its contract.
-use Rattle.laws.specs.Usual.{_≡_, refl, sym, ap, _∙_, Bool, cond, List, ℕ, length, leb, needs}
+use Rattle.laws.specs.Usual.{_≡_, refl, sym, ap, _∙_, Bool, cond, List, ℕ, length, leb}
 use borrow.Author.Tests.{le-leb, lt-leb}
 use Rattle.replay_commands.specs.Commands.{startBy, startOf}
 use Rattle.text.specs.Lines.{space}
@@ -28,25 +28,25 @@ start-read line n a s b t w p₀ p₁ p₂ p₃ p₄ p₅ =
     (sym (ap (leb (length line)) (r₅ .1) ∙ ended-at space line 5 6)))
 
 number-at-requires : tie.Need-number-at-requires
-number-at-requires c κs = search needs
+number-at-requires c κs = tt
 
 number-at-requires-2 : tie.Need-number-at-requires-2
-number-at-requires-2 c κs = search needs
+number-at-requires-2 c κs = tt
 
 number-at-requires-3 : tie.Need-number-at-requires-3
-number-at-requires-3 c κs = search needs
+number-at-requires-3 c κs = tt
 
 number-at-requires-4 : tie.Need-number-at-requires-4
-number-at-requires-4 c κs = search needs
+number-at-requires-4 c κs = tt
 
 number-at-requires-5 : tie.Need-number-at-requires-5
-number-at-requires-5 c κs = search needs
+number-at-requires-5 c κs = tt
 
 number-at-requires-6 : tie.Need-number-at-requires-6
-number-at-requires-6 c κs = search needs
+number-at-requires-6 c κs = tt
 
 start-by-requires : tie.Need-start-by-requires
-start-by-requires c κs = search needs
+start-by-requires c κs = tt
 
 returns : tie.Need-returns
 returns c = c .start-by .ensures ∙ sym (rw (le-leb _ _ (c .before .if1 .taken)) at (start-read (c .before .before .before .before .before .before .before .before .before .before .args .line .now) (c .before .before .before .before .before .before .before .before .number-at .result) (c .before .before .before .before .before .before .before .number-at2 .result) (c .before .before .before .before .before .before .number-at3 .result) (c .before .before .before .before .before .number-at4 .result) (c .before .before .before .before .number-at5 .result) (c .before .before .before .number-at6 .result) (c .before .before .before .before .before .before .before .before .number-at .ensures) (c .before .before .before .before .before .before .before .number-at2 .ensures) (c .before .before .before .before .before .before .number-at3 .ensures) (c .before .before .before .before .before .number-at4 .ensures) (c .before .before .before .before .number-at5 .ensures) (c .before .before .before .number-at6 .ensures)))

@@ -1,5 +1,5 @@
 -- `replay_commands::tick_of` meets its contract.
-use Rattle.laws.specs.Usual.{_≡_, refl, sym, ap, _∙_, Bool, cond, _&&_, List, ℕ, length, leb, needs}
+use Rattle.laws.specs.Usual.{_≡_, refl, sym, ap, _∙_, Bool, cond, _&&_, List, ℕ, length, leb}
 use Rattle.replay_commands.specs.Commands.{tickOf}
 use Rattle.text.specs.Lines.{space}
 use Rattle.text_reading.specs.PartLaws.{ended-at}
@@ -20,7 +20,7 @@ tick-read line k p =
     (sym (ap (leb (length line)) (r .1) ∙ ended-at space line 4 1)))
 
 number-at-requires : tie.Need-number-at-requires
-number-at-requires c κs = search needs
+number-at-requires c κs = tt
 
 returns : tie.Need-returns
 returns c = sym (rw (c .if1 .taken) at (tick-read (c .before .before .before .before .before .before .args .line .now) (c .before .before .before .before .number-at .result) (c .before .before .before .before .number-at .ensures)))

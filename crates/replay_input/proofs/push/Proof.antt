@@ -17,10 +17,10 @@ returns : tie.Need-returns
 returns c = (simp (lt-ltb _ _ (c .if1 .taken)), c .before .before .before .store .ensures)
 
 count-after-requires : tie.Need-count-after-requires
-count-after-requires c κs = search needs
+count-after-requires c κs = tt
 
 is-hexadecimal-requires : tie.Need-is-hexadecimal-requires
-is-hexadecimal-requires c κs = search needs
+is-hexadecimal-requires c κs = tt
 
 same-length-2 : tie.Need-same-length-2
 same-length-2 c = search needs

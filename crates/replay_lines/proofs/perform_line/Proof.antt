@@ -1,5 +1,5 @@
 -- `replay_lines::perform_line` meets its contract.
-use Rattle.laws.specs.Usual.{_≡_, ap, _∙_, List, ℕ, length, needs}
+use Rattle.laws.specs.Usual.{_≡_, ap, _∙_, List, ℕ, length}
 use Rattle.replay_commands.specs.Commands.{commandIn}
 use Rattle.replay_commands.specs.declared.Command.{Command}
 use Rattle.copying.specs.Pasted.{pasted}
@@ -22,10 +22,10 @@ kept-same : (kept : Kept) {station : Station} {memory assembly turn frame : List
 kept-same kept a b c d e = rw (a, b, c, d, e)
 
 command-of-requires : tie.Need-command-of-requires
-command-of-requires c κs = search needs
+command-of-requires c κs = tt
 
 perform-requires : tie.Need-perform-requires
-perform-requires c κs = search needs
+perform-requires c κs = tt
 
 returns : tie.Need-returns
 returns c =

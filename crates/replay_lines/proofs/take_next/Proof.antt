@@ -1,5 +1,5 @@
 -- `replay_lines::take_next` meets its contract.
-use Rattle.laws.specs.Usual.{_≡_, sym, ap, ap₂, _∙_, List, ℕ, length, drop, needs}
+use Rattle.laws.specs.Usual.{_≡_, sym, ap, ap₂, _∙_, List, ℕ, length, drop}
 use Rattle.copying.specs.Laws.{paste-nothing}
 use Rattle.copying.specs.Pasted.{pasted}
 use Rattle.text_feeding.specs.Scan.{Scan, ended-taken, ended-said, open-taken, open-said}
@@ -19,13 +19,13 @@ scan-done : (kept : Kept) (line : Line) (stored part : List ℕ) (at : ℕ) (res
 scan-done kept line stored part at result after e f = rw (e, f) (scan-taken kept line stored part at)
 
 scan-requires : tie.Need-scan-requires
-scan-requires c κs = search needs
+scan-requires c κs = tt
 
 perform-line-requires : tie.Need-perform-line-requires
-perform-line-requires c κs = search needs
+perform-line-requires c κs = tt
 
 begin-requires : tie.Need-begin-requires
-begin-requires c κs = search needs
+begin-requires c κs = tt
 
 returns : tie.Need-returns
 returns c =

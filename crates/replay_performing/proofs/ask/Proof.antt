@@ -6,7 +6,7 @@ use Rattle.replay_performing.proofs.ask.Statement.{statement}
 use Rattle.replay_performing.proofs.ask.Tie as tie
 
 ask-requires : tie.Need-ask-requires
-ask-requires c κs = search needs
+ask-requires c κs = tt
 
 put-asked-requires : tie.Need-put-asked-requires
 put-asked-requires c κs = search needs

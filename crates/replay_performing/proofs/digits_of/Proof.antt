@@ -5,7 +5,7 @@ use Rattle.replay_performing.proofs.digits_of.Statement.{statement}
 use Rattle.replay_performing.proofs.digits_of.Tie as tie
 
 part-of-requires : tie.Need-part-of-requires
-part-of-requires c κs = search needs
+part-of-requires c κs = tt
 
 returns : tie.Need-returns
 returns c =
@@ -16,7 +16,7 @@ mul-part-of : tie.Need-mul-part-of
 mul-part-of c = search needs
 
 part-of-requires-2 : tie.Need-part-of-requires-2
-part-of-requires-2 c κs = search needs
+part-of-requires-2 c κs = tt
 
 returns-2 : tie.Need-returns-2
 returns-2 c = search needs

@@ -1,5 +1,5 @@
 -- `replay_performing::peek` meets its contract.
-use Rattle.laws.specs.Usual.{ap, _∙_, List, ℕ, arith, length, drop, needs}
+use Rattle.laws.specs.Usual.{ap, _∙_, List, ℕ, arith, length, drop}
 use lib.ListN.{length-take, length-drop}
 use Rattle.copying.specs.Pasted.{pasted}
 use Rattle.replay_reply_shown.specs.Shown.{octetsText}
@@ -7,7 +7,7 @@ use Rattle.replay_performing.proofs.peek.Statement.{statement}
 use Rattle.replay_performing.proofs.peek.Tie as tie
 
 part-of-requires : tie.Need-part-of-requires
-part-of-requires c κs = search needs
+part-of-requires c κs = tt
 
 put-octets-requires : tie.Need-put-octets-requires
 put-octets-requires c κs =

@@ -6,7 +6,7 @@ use Rattle.replay_performing.proofs.tick.Statement.{statement}
 use Rattle.replay_performing.proofs.tick.Tie as tie
 
 ticks-requires : tie.Need-ticks-requires
-ticks-requires c κs = search needs
+ticks-requires c κs = tt
 
 put-ticked-requires : tie.Need-put-ticked-requires
 put-ticked-requires c κs = search needs

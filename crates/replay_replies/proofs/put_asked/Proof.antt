@@ -12,7 +12,7 @@ enum-known-asked : tie.Need-enum-known-asked
 enum-known-asked c = search needs
 
 part-of-requires : tie.Need-part-of-requires
-part-of-requires c κs = search needs
+part-of-requires c κs = tt
 
 put-frame-requires : tie.Need-put-frame-requires
 put-frame-requires c κs =

@@ -10,7 +10,7 @@ use Rattle.replay_reply_shown.proofs.put_panel.Statement.{statement}
 use Rattle.replay_reply_shown.proofs.put_panel.Tie as tie
 
 text-of-requires : tie.Need-text-of-requires
-text-of-requires c κs = search needs
+text-of-requires c κs = tt
 
 sub-put-line : tie.Need-sub-put-line
 sub-put-line c = search needs

@@ -11,7 +11,7 @@ use Rattle.replay_reply_state.proofs.put_head.Statement.{statement}
 use Rattle.replay_reply_state.proofs.put_head.Tie as tie
 
 view-shown-requires : tie.Need-view-shown-requires
-view-shown-requires c κs = search needs
+view-shown-requires c κs = tt
 
 put-phase-requires : tie.Need-put-phase-requires
 put-phase-requires c κs = search needs

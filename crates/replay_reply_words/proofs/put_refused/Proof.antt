@@ -16,7 +16,7 @@ put-word-requires : tie.Need-put-word-requires
 put-word-requires c κs = search needs
 
 number-of-requires : tie.Need-number-of-requires
-number-of-requires c κs = search needs
+number-of-requires c κs = tt
 
 cast-put-number : tie.Need-cast-put-number
 cast-put-number c = search needs

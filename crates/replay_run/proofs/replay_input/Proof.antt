@@ -11,7 +11,7 @@ slice-aggregate-replay-all : tie.Need-slice-aggregate-replay-all
 slice-aggregate-replay-all c = search needs
 
 replay-all-requires : tie.Need-replay-all-requires
-replay-all-requires c κs = search needs
+replay-all-requires c κs = tt
 
 returns : tie.Need-returns
 returns c =

@@ -8,7 +8,7 @@ use Rattle.replay_run.proofs.replay_next.Statement.{statement}
 use Rattle.replay_run.proofs.replay_next.Tie as tie
 
 take-next-requires : tie.Need-take-next-requires
-take-next-requires c κs = search needs
+take-next-requires c κs = tt
 
 sub-write-answer : tie.Need-sub-write-answer
 sub-write-answer c = search needs

@@ -6,7 +6,7 @@ use Rattle.replay_run.proofs.replay_some.Statement.{statement}
 use Rattle.replay_run.proofs.replay_some.Tie as tie
 
 read-some-requires : tie.Need-read-some-requires
-read-some-requires c κs = search needs
+read-some-requires c κs = tt
 
 sub-replay-part : tie.Need-sub-replay-part
 sub-replay-part c = search needs
@@ -18,7 +18,7 @@ part-replay-part-end : tie.Need-part-replay-part-end
 part-replay-part-end c = search needs
 
 replay-part-requires : tie.Need-replay-part-requires
-replay-part-requires c κs = search needs
+replay-part-requires c κs = tt
 
 same-length : tie.Need-same-length
 same-length c = c .before .before .before .before .before .before .before .before .before .before .before .read-some .kept .0

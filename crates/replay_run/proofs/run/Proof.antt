@@ -6,10 +6,10 @@ use Rattle.replay_run.proofs.run.Statement.{statement}
 use Rattle.replay_run.proofs.run.Tie as tie
 
 replay-input-requires : tie.Need-replay-input-requires
-replay-input-requires c κs = search needs
+replay-input-requires c κs = tt
 
 put-rest-requires : tie.Need-put-rest-requires
-put-rest-requires c κs = search needs
+put-rest-requires c κs = tt
 
 sub-write-rest : tie.Need-sub-write-rest
 sub-write-rest c = search needs

@@ -6,7 +6,7 @@ use Rattle.replay_words.proofs.decimal.Statement.{statement}
 use Rattle.replay_words.proofs.decimal.Tie as tie
 
 decimal-in-requires : tie.Need-decimal-in-requires
-decimal-in-requires c κs = search needs
+decimal-in-requires c κs = tt
 
 enum-known-number : tie.Need-enum-known-number
 enum-known-number c = search needs

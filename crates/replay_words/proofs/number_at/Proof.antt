@@ -23,7 +23,7 @@ add-start : tie.Need-add-start
 add-start c = search needs
 
 word-end-requires : tie.Need-word-end-requires
-word-end-requires c κs = search needs
+word-end-requires c κs = tt
 
 sub-decimal : tie.Need-sub-decimal
 sub-decimal c = search needs
@@ -38,7 +38,7 @@ part-decimal-end c =
     search needs
 
 decimal-requires : tie.Need-decimal-requires
-decimal-requires c κs = search needs
+decimal-requires c κs = tt
 
 returns-2 : tie.Need-returns-2
 returns-2 c =

@@ -1,10 +1,9 @@
 -- `replay_words::same` meets its contract.
-use borrow.Author.Needs.{needs}
 use Rattle.replay_words.proofs.same.Statement.{statement}
 use Rattle.replay_words.proofs.same.Tie as tie
 
 begins-requires : tie.Need-begins-requires
-begins-requires c κs = search needs
+begins-requires c κs = tt
 
 returns : tie.Need-returns
 returns c = rw (c .begins .ensures)

@@ -16,7 +16,7 @@ loop-holds : tie.Need-loop-holds Inv-loop μ-loop
 loop-holds c = search needs
 
 run-case-requires : tie.Need-run-case-requires Inv-loop μ-loop
-run-case-requires c κs = search needs
+run-case-requires c κs = tt
 
 add-index : tie.Need-add-index Inv-loop μ-loop
 add-index c = search needs

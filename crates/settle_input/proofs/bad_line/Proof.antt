@@ -1,11 +1,10 @@
 -- `settle_input::bad_line` meets its contract.
 
-use borrow.Author.Needs.{needs}
 use Rattle.settle_input.proofs.bad_line.Statement.{statement}
 use Rattle.settle_input.proofs.bad_line.Tie as tie
 
 no-ring-requires : tie.Need-no-ring-requires
-no-ring-requires c κs = search needs
+no-ring-requires c κs = tt
 
 returns : tie.Need-returns
 returns c = rw (c .no-ring .ensures)

@@ -10,10 +10,10 @@ use Rattle.settle_input.proofs.entry_of.Statement.{statement}
 use Rattle.settle_input.proofs.entry_of.Tie as tie
 
 place-of-requires : tie.Need-place-of-requires
-place-of-requires c κs = search needs
+place-of-requires c κs = tt
 
 no-entry-requires : tie.Need-no-entry-requires
-no-entry-requires c κs = search needs
+no-entry-requires c κs = tt
 
 returns : tie.Need-returns
 returns c =
@@ -33,10 +33,10 @@ part-rest-end : tie.Need-part-rest-end
 part-rest-end c = search needs
 
 place-of-requires-2 : tie.Need-place-of-requires-2
-place-of-requires-2 c κs = search needs
+place-of-requires-2 c κs = tt
 
 no-entry-requires-2 : tie.Need-no-entry-requires-2
-no-entry-requires-2 c κs = search needs
+no-entry-requires-2 c κs = tt
 
 returns-2 : tie.Need-returns-2
 returns-2 c =
@@ -57,7 +57,7 @@ part-number-in-end : tie.Need-part-number-in-end
 part-number-in-end c = search needs
 
 number-in-requires : tie.Need-number-in-requires
-number-in-requires c κs = search needs
+number-in-requires c κs = tt
 
 sub-number-in-2 : tie.Need-sub-number-in-2
 sub-number-in-2 c = search needs
@@ -69,10 +69,10 @@ part-number-in-end-2 : tie.Need-part-number-in-end-2
 part-number-in-end-2 c = search needs
 
 number-in-requires-2 : tie.Need-number-in-requires-2
-number-in-requires-2 c κs = search needs
+number-in-requires-2 c κs = tt
 
 no-entry-requires-3 : tie.Need-no-entry-requires-3
-no-entry-requires-3 c κs = search needs
+no-entry-requires-3 c κs = tt
 
 -- both numbers, as the definition has them
 read : (c : tie.After-number-in2) → cond (ltb 0 (c .before .before .number-in .result) && ltb 0 (c .number-in2 .result)) (record { station = c .before .before .number-in .result; view = c .number-in2 .result }) noEntry ≡ entryOf (c .before .before .before .before .before .before .before .before .before .before .args .line .now)

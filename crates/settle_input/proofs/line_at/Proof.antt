@@ -18,7 +18,7 @@ part-rest-end : tie.Need-part-rest-end
 part-rest-end c = search needs
 
 line-length-requires : tie.Need-line-length-requires
-line-length-requires c κs = search needs
+line-length-requires c κs = tt
 
 sub-entry-of : tie.Need-sub-entry-of
 sub-entry-of c = search needs
@@ -32,7 +32,7 @@ part-entry-of-end c =
     omega (arith, c .line-length .ensures, first-line-most rest)
 
 entry-of-requires : tie.Need-entry-of-requires
-entry-of-requires c κs = search needs
+entry-of-requires c κs = tt
 
 add-t12 : tie.Need-add-t12
 add-t12 c =

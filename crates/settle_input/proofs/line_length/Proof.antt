@@ -5,7 +5,7 @@ use Rattle.settle_input.proofs.line_length.Statement.{statement}
 use Rattle.settle_input.proofs.line_length.Tie as tie
 
 place-of-requires : tie.Need-place-of-requires
-place-of-requires c κs = search needs
+place-of-requires c κs = tt
 
 add-result : tie.Need-add-result
 add-result c = search needs

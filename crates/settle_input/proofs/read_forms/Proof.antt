@@ -22,7 +22,7 @@ line-at-requires : tie.Need-line-at-requires Inv-loop μ-loop
 line-at-requires c κs = search needs
 
 no-ring-requires : tie.Need-no-ring-requires Inv-loop μ-loop
-no-ring-requires c κs = search needs
+no-ring-requires c κs = tt
 
 returns : tie.Need-returns Inv-loop μ-loop
 returns c =

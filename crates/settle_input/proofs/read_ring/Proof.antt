@@ -1,5 +1,5 @@
 -- `settle_input::read_ring` meets its contract.
-use Rattle.laws.specs.Usual.{ap, _∙_, needs}
+use Rattle.laws.specs.Usual.{ap, _∙_}
 use borrow.Author.Tests.{eq-eqb, ne-eqb}
 use Rattle.settle_input.specs.Input.{bad}
 use Rattle.settle_input.specs.Filled.{unlisted-line}
@@ -7,16 +7,16 @@ use Rattle.settle_input.proofs.read_ring.Statement.{statement}
 use Rattle.settle_input.proofs.read_ring.Tie as tie
 
 bad-line-requires : tie.Need-bad-line-requires
-bad-line-requires c κs = search needs
+bad-line-requires c κs = tt
 
 returns : tie.Need-returns
 returns c = rw (eq-eqb _ _ (c .before .if1 .taken)) (c .bad-line .ensures)
 
 read-forms-requires : tie.Need-read-forms-requires
-read-forms-requires c κs = search needs
+read-forms-requires c κs = tt
 
 bad-line-requires-2 : tie.Need-bad-line-requires-2
-bad-line-requires-2 c κs = search needs
+bad-line-requires-2 c κs = tt
 
 returns-2 : tie.Need-returns-2
 returns-2 c =
@@ -25,10 +25,10 @@ returns-2 c =
     rw (ne-eqb _ _ (c .before .before .before .before .if1 .left), ne-eqb _ _ some) (c .bad-line2 .ensures ∙ rw forms)
 
 first-unlisted-requires : tie.Need-first-unlisted-requires
-first-unlisted-requires c κs = search needs
+first-unlisted-requires c κs = tt
 
 bad-line-requires-3 : tie.Need-bad-line-requires-3
-bad-line-requires-3 c κs = search needs
+bad-line-requires-3 c κs = tt
 
 returns-3 : tie.Need-returns-3
 returns-3 c =

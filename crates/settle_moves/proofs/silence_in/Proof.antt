@@ -20,7 +20,7 @@ cast-silent-view : tie.Need-cast-silent-view Inv-loop μ-loop
 cast-silent-view c = search needs
 
 silent-view-requires : tie.Need-silent-view-requires Inv-loop μ-loop
-silent-view-requires c κs = search needs
+silent-view-requires c κs = tt
 
 array-write-views : tie.Need-array-write-views Inv-loop μ-loop
 array-write-views c = search needs

@@ -8,7 +8,7 @@ array-read-view : tie.Need-array-read-view
 array-read-view c = search needs
 
 next-after-requires : tie.Need-next-after-requires
-next-after-requires c κs = search needs
+next-after-requires c κs = tt
 
 returns : tie.Need-returns
 returns c = c .if1 .taken ∙ rw (eq-eqb _ _ (c .if1 .taken))

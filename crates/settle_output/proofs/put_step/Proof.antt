@@ -6,7 +6,7 @@ use Rattle.settle_output.proofs.put_step.Statement.{statement}
 use Rattle.settle_output.proofs.put_step.Tie as tie
 
 letter-requires : tie.Need-letter-requires
-letter-requires c κs = search needs
+letter-requires c κs = tt
 
 cast-t8 : tie.Need-cast-t8
 cast-t8 c = search needs
@@ -15,7 +15,7 @@ cast-t9 : tie.Need-cast-t9
 cast-t9 c = search needs
 
 different-views-requires : tie.Need-different-views-requires
-different-views-requires c κs = search needs
+different-views-requires c κs = tt
 
 slice-aggregate-put-in : tie.Need-slice-aggregate-put-in
 slice-aggregate-put-in c = search needs

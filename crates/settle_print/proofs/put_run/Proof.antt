@@ -15,7 +15,7 @@ abbrev moved : Printing → Stepped → Printing
 moved p made = record { stage = Run; ring = made .ring; left = p .left - 1; settled = p .settled }
 
 put-settled-requires : tie.Need-put-settled-requires
-put-settled-requires c κs = search needs
+put-settled-requires c κs = tt
 
 same-length : tie.Need-same-length
 same-length c = search needs
@@ -33,10 +33,10 @@ returns c =
     )
 
 step-requires : tie.Need-step-requires
-step-requires c κs = search needs
+step-requires c κs = tt
 
 put-step-requires : tie.Need-put-step-requires
-put-step-requires c κs = search needs
+put-step-requires c κs = tt
 
 sub-rest : tie.Need-sub-rest
 sub-rest c = search needs

@@ -7,13 +7,13 @@ use Rattle.settle_rest.proofs.begin.Statement.{statement}
 use Rattle.settle_rest.proofs.begin.Tie as tie
 
 read-ring-requires : tie.Need-read-ring-requires
-read-ring-requires c κs = search needs
+read-ring-requires c κs = tt
 
 stage-of-requires : tie.Need-stage-of-requires
-stage-of-requires c κs = search needs
+stage-of-requires c κs = tt
 
 settle-requires : tie.Need-settle-requires
-settle-requires c κs = search needs
+settle-requires c κs = tt
 
 cast-t7 : tie.Need-cast-t7
 cast-t7 c = search needs

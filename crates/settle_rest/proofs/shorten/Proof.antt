@@ -11,7 +11,7 @@ sub-ring-after : tie.Need-sub-ring-after
 sub-ring-after c = search needs
 
 ring-after-requires : tie.Need-ring-after-requires
-ring-after-requires c κs = search needs
+ring-after-requires c κs = tt
 
 returns-2 : tie.Need-returns-2
 returns-2 c =

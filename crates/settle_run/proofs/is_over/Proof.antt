@@ -1,11 +1,10 @@
 -- `settle_run::is_over` meets its contract.
 
-use borrow.Author.Needs.{needs}
 use Rattle.settle_run.proofs.is_over.Statement.{statement}
 use Rattle.settle_run.proofs.is_over.Tie as tie
 
 different-views-requires : tie.Need-different-views-requires
-different-views-requires c κs = search needs
+different-views-requires c κs = tt
 
 returns : tie.Need-returns
 returns c = cc

@@ -5,7 +5,7 @@ use Rattle.settle_run.proofs.is_ring.Statement.{statement}
 use Rattle.settle_run.proofs.is_ring.Tie as tie
 
 first-unlisted-requires : tie.Need-first-unlisted-requires
-first-unlisted-requires c κs = search needs
+first-unlisted-requires c κs = tt
 
 element-copy-out-result : tie.Need-element-copy-out-result
 element-copy-out-result c = search needs

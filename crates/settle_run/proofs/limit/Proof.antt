@@ -5,10 +5,10 @@ use Rattle.settle_run.proofs.limit.Statement.{statement}
 use Rattle.settle_run.proofs.limit.Tie as tie
 
 stations-requires : tie.Need-stations-requires
-stations-requires c κs = search needs
+stations-requires c κs = tt
 
 is-ring-requires : tie.Need-is-ring-requires
-is-ring-requires c κs = search needs
+is-ring-requires c κs = tt
 
 mul-result : tie.Need-mul-result
 mul-result c =

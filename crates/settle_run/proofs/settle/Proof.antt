@@ -16,7 +16,7 @@ abbrev μ-loop : tie.MeasureT-loop
 μ-loop now₀ passes₀ silences₀ left₀ now passes silences left = left
 
 limit-requires : tie.Need-limit-requires Inv-loop μ-loop
-limit-requires c κs = search needs
+limit-requires c κs = tt
 
 loop-holds : tie.Need-loop-holds Inv-loop μ-loop
 loop-holds c =
@@ -24,10 +24,10 @@ loop-holds c =
     subst (Going ring ring 0 0) (sym (c .limit .ensures)) (going-start ring (search needs))
 
 is-over-requires : tie.Need-is-over-requires Inv-loop μ-loop
-is-over-requires c κs = search needs
+is-over-requires c κs = tt
 
 step-requires : tie.Need-step-requires Inv-loop μ-loop
-step-requires c κs = search needs
+step-requires c κs = tt
 
 -- in a turn the run is not over
 going-on : (c : tie.Then1 Inv-loop μ-loop) → over (c .before .before .loop .now) (c .before .before .loop .left) ≡ false
@@ -74,7 +74,7 @@ loop-again-2 c =
     (going-silence (going-on (c .before .before .before .before)) (loop .inv) (sym (ap (λ (made : Stepped). made .kind) made) ∙ c .enum-told2 .given .1))
 
 different-views-requires : tie.Need-different-views-requires Inv-loop μ-loop
-different-views-requires c κs = search needs
+different-views-requires c κs = tt
 
 returns : tie.Need-returns Inv-loop μ-loop
 returns c =

@@ -1,14 +1,14 @@
 -- `settle_run::step` meets its contract.
-use Rattle.laws.specs.Usual.{sym, _∙_, needs}
+use Rattle.laws.specs.Usual.{sym, _∙_}
 use borrow.Author.Tests.{eq-eqb, ne-eqb}
 use Rattle.settle_run.proofs.step.Statement.{statement}
 use Rattle.settle_run.proofs.step.Tie as tie
 
 smallest-holder-requires : tie.Need-smallest-holder-requires
-smallest-holder-requires c κs = search needs
+smallest-holder-requires c κs = tt
 
 silence-in-requires : tie.Need-silence-in-requires
-silence-in-requires c κs = search needs
+silence-in-requires c κs = tt
 
 returns : tie.Need-returns
 returns c =
@@ -16,10 +16,10 @@ returns c =
     rw (none, c .silence-in .ensures)
 
 next-after-requires : tie.Need-next-after-requires
-next-after-requires c κs = search needs
+next-after-requires c κs = tt
 
 pass-from-requires : tie.Need-pass-from-requires
-pass-from-requires c κs = search needs
+pass-from-requires c κs = tt
 
 returns-2 : tie.Need-returns-2
 returns-2 c =

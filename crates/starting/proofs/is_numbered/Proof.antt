@@ -1,10 +1,9 @@
 -- `starting::is_numbered` meets its contract.
-use borrow.Author.Needs.{needs}
 use Rattle.starting.proofs.is_numbered.Statement.{statement}
 use Rattle.starting.proofs.is_numbered.Tie as tie
 
 is-station-requires : tie.Need-is-station-requires
-is-station-requires c κs = search needs
+is-station-requires c κs = tt
 
 returns : tie.Need-returns
 returns c = rw (c .before .is-station .ensures)

@@ -1,11 +1,11 @@
 -- `starting::start_answer` meets its contract.
-use Rattle.laws.specs.Usual.{sym, _∙_, needs}
+use Rattle.laws.specs.Usual.{sym, _∙_}
 use borrow.Author.Tests.{not-true, not-false}
 use Rattle.starting.proofs.start_answer.Statement.{statement}
 use Rattle.starting.proofs.start_answer.Tie as tie
 
 is-off-requires : tie.Need-is-off-requires
-is-off-requires c κs = search needs
+is-off-requires c κs = tt
 
 returns : tie.Need-returns
 returns c =
@@ -13,7 +13,7 @@ returns c =
     rw on
 
 is-numbered-requires : tie.Need-is-numbered-requires
-is-numbered-requires c κs = search needs
+is-numbered-requires c κs = tt
 
 returns-2 : tie.Need-returns-2
 returns-2 c =
@@ -22,7 +22,7 @@ returns-2 c =
     rw (off, out)
 
 in-range-requires : tie.Need-in-range-requires
-in-range-requires c κs = search needs
+in-range-requires c κs = tt
 
 returns-3 : tie.Need-returns-3
 returns-3 c =

@@ -1,13 +1,13 @@
 -- `starting::stop` meets its contract.
-use Rattle.laws.specs.Usual.{sym, _∙_, needs}
+use Rattle.laws.specs.Usual.{sym, _∙_}
 use Rattle.starting.proofs.stop.Statement.{statement}
 use Rattle.starting.proofs.stop.Tie as tie
 
 is-off-requires : tie.Need-is-off-requires
-is-off-requires c κs = search needs
+is-off-requires c κs = tt
 
 refused-requires : tie.Need-refused-requires
-refused-requires c κs = search needs
+refused-requires c κs = tt
 
 returns : tie.Need-returns
 returns c =
@@ -15,10 +15,10 @@ returns c =
     (c .refused .ensures .0 ∙ rw off, c .refused .ensures .1 ∙ rw off)
 
 stopped-requires : tie.Need-stopped-requires
-stopped-requires c κs = search needs
+stopped-requires c κs = tt
 
 done-requires : tie.Need-done-requires
-done-requires c κs = search needs
+done-requires c κs = tt
 
 returns-2 : tie.Need-returns-2
 returns-2 c =

@@ -4,7 +4,7 @@ use Rattle.state_parts.proofs.taken_if.Statement.{statement}
 use Rattle.state_parts.proofs.taken_if.Tie as tie
 
 take-requires : tie.Need-take-requires
-take-requires c κs = search needs
+take-requires c κs = tt
 
 returns : tie.Need-returns
 returns c = c .take .ensures ∙ rw (c .before .if1 .taken)

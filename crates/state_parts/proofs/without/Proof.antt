@@ -1,11 +1,11 @@
 -- `state_parts::without` meets its contract.
-use Rattle.laws.specs.Usual.{_∙_, needs}
+use Rattle.laws.specs.Usual.{_∙_}
 use borrow.Author.Tests.{eq-eqb, ne-eqb}
 use Rattle.state_parts.proofs.without.Statement.{statement}
 use Rattle.state_parts.proofs.without.Tie as tie
 
 nothing-requires : tie.Need-nothing-requires
-nothing-requires c κs = search needs
+nothing-requires c κs = tt
 
 returns : tie.Need-returns
 returns c = c .nothing .ensures ∙ rw (eq-eqb _ _ (c .before .if1 .taken))

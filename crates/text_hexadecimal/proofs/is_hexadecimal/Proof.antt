@@ -4,7 +4,7 @@ use Rattle.text_hexadecimal.proofs.is_hexadecimal.Statement.{statement}
 use Rattle.text_hexadecimal.proofs.is_hexadecimal.Tie as tie
 
 digit-of-requires : tie.Need-digit-of-requires
-digit-of-requires c κs = search needs
+digit-of-requires c κs = tt
 
 enum-told : tie.Need-enum-told
 enum-told c = search needs

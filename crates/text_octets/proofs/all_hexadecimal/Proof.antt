@@ -19,7 +19,7 @@ shared-slice-read-is-hexadecimal : tie.Need-shared-slice-read-is-hexadecimal Inv
 shared-slice-read-is-hexadecimal c = search needs
 
 is-hexadecimal-requires : tie.Need-is-hexadecimal-requires Inv-loop μ-loop
-is-hexadecimal-requires c κs = search needs
+is-hexadecimal-requires c κs = tt
 
 returns : tie.Need-returns Inv-loop μ-loop
 returns c =

@@ -11,7 +11,7 @@ shared-slice-read-value-of : tie.Need-shared-slice-read-value-of
 shared-slice-read-value-of c = search needs
 
 value-of-requires : tie.Need-value-of-requires
-value-of-requires c κs = search needs
+value-of-requires c κs = tt
 
 mul-result : tie.Need-mul-result
 mul-result c = let a = c .before .before .before .args in omega (arith, c .value-of .ensures, value-below (getD (a .digits .now) (2 * a .i) 0))
@@ -26,7 +26,7 @@ shared-slice-read-value-of-2 : tie.Need-shared-slice-read-value-of-2
 shared-slice-read-value-of-2 c = search needs
 
 value-of-requires-2 : tie.Need-value-of-requires-2
-value-of-requires-2 c κs = search needs
+value-of-requires-2 c κs = tt
 
 add-result : tie.Need-add-result
 add-result c =

@@ -1,11 +1,11 @@
 -- `text_octets::size_of` meets its contract.
-use Rattle.laws.specs.Usual.{sym, ap, _∙_, Bool, cond, _&&_, _/_, length, needs}
+use Rattle.laws.specs.Usual.{sym, ap, _∙_, Bool, cond, _&&_, _/_, length}
 use Rattle.text_hexadecimal.specs.OctetLaws.{even, octets-length}
 use Rattle.text_octets.proofs.size_of.Statement.{statement}
 use Rattle.text_octets.proofs.size_of.Tie as tie
 
 all-hexadecimal-requires : tie.Need-all-hexadecimal-requires
-all-hexadecimal-requires c κs = search needs
+all-hexadecimal-requires c κs = tt
 
 returns : tie.Need-returns
 returns c =

@@ -4,7 +4,7 @@ use Rattle.text_octets.proofs.value_of.Statement.{statement}
 use Rattle.text_octets.proofs.value_of.Tie as tie
 
 digit-of-requires : tie.Need-digit-of-requires
-digit-of-requires c κs = search needs
+digit-of-requires c κs = tt
 
 enum-known-digit : tie.Need-enum-known-digit
 enum-known-digit c = search needs

@@ -14,7 +14,7 @@ returns-2 : tie.Need-returns-2
 returns-2 c = let a = c .before .before .before .before .args in sym (zero-leads (a .most) (a .octets .now) (c .if2 .taken))
 
 value-of-requires : tie.Need-value-of-requires
-value-of-requires c κs = search needs
+value-of-requires c κs = tt
 
 returns-3 : tie.Need-returns-3
 returns-3 c = let a = c .before .before .before .before .before .args in c .value-of .ensures ∙ sym (none-leads (a .most) (a .octets .now) (c .before .before .before .if1 .left) (c .before .if2 .left))

@@ -10,28 +10,28 @@ enum-told-2 : tie.Need-enum-told-2
 enum-told-2 c = search needs
 
 trigger-due-requires : tie.Need-trigger-due-requires
-trigger-due-requires c κs = search needs
+trigger-due-requires c κs = tt
 
 enum-told-3 : tie.Need-enum-told-3
 enum-told-3 c = search needs
 
 request-fallen-requires : tie.Need-request-fallen-requires
-request-fallen-requires c κs = search needs
+request-fallen-requires c κs = tt
 
 enum-told-4 : tie.Need-enum-told-4
 enum-told-4 c = search needs
 
 request-fallen-requires-2 : tie.Need-request-fallen-requires-2
-request-fallen-requires-2 c κs = search needs
+request-fallen-requires-2 c κs = tt
 
 enum-told-5 : tie.Need-enum-told-5
 enum-told-5 c = search needs
 
 holds-requires : tie.Need-holds-requires
-holds-requires c κs = search needs
+holds-requires c κs = tt
 
 is-placed-requires : tie.Need-is-placed-requires
-is-placed-requires c κs = search needs
+is-placed-requires c κs = tt
 
 returns : tie.Need-returns
 returns c = rw (c .enum-told .given .1)

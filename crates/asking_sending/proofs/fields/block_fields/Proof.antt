@@ -5,16 +5,16 @@ use Rattle.asking_sending.proofs.fields.block_fields.Statement.{stateme
 use Rattle.asking_sending.proofs.fields.block_fields.Tie as tie
 
 is-last-requires : tie.Need-is-last-requires
-is-last-requires c κs = search needs
+is-last-requires c κs = tt
 
 block-code-requires : tie.Need-block-code-requires
-block-code-requires c κs = search needs
+block-code-requires c κs = tt
 
 add-block : tie.Need-add-block
 add-block c = let p = placed (c .before .before .before .before .args .own .areas) (c .before .before .before .before .args .block) (c .before .before .before .before .pre) in omega (arith, p .next, p .few)
 
 block-length-requires : tie.Need-block-length-requires
-block-length-requires c κs = search needs
+block-length-requires c κs = tt
 
 cast-t10 : tie.Need-cast-t10
 cast-t10 c = search needs
@@ -23,7 +23,7 @@ add-t11 : tie.Need-add-t11
 add-t11 c = search needs
 
 blocks-requires : tie.Need-blocks-requires
-blocks-requires c κs = search needs
+blocks-requires c κs = tt
 
 cast-t13 : tie.Need-cast-t13
 cast-t13 c = let p = placed (c .before .before .before .before .before .before .args .own .areas) (c .before .before .before .before .before .before .args .block) (c .before .before .before .before .before .before .pre) in omega (arith, c .blocks2 .ensures, p .few)

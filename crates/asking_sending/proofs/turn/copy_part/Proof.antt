@@ -16,7 +16,7 @@ ends : (area : Area) (part : Part) (span : Span) → span ≡ spanOf area part �
 ends area part span e ranged = rw e (omega (arith, inside area part ranged .to, inside area part ranged .memory))
 
 span-of-requires : tie.Need-span-of-requires
-span-of-requires c κs = search needs
+span-of-requires c κs = tt
 
 add-end : tie.Need-add-end
 add-end c = omega (arith, ends (c .before .before .before .before .args .area) (c .before .before .before .before .args .part) (c .before .span-of .result) (c .before .span-of .ensures) (c .before .before .before .before .pre .0))

@@ -1,0 +1,26 @@
+-- `boundary_answers::data_number` meets its contract.
+use Rattle.laws.specs.Usual.{needs}
+use Rattle.boundary_answers.proofs.data_number.Statement.{statement}
+use Rattle.boundary_answers.proofs.data_number.Tie as tie
+
+enum-told : tie.Need-enum-told
+enum-told c = c .match .keys1
+
+enum-told-2 : tie.Need-enum-told-2
+enum-told-2 c = c .match .keys2
+
+enum-told-3 : tie.Need-enum-told-3
+enum-told-3 c = c .match .keys3
+
+returns : tie.Need-returns
+returns c = search needs
+
+returns-2 : tie.Need-returns-2
+returns-2 c = search needs
+
+returns-3 : tie.Need-returns-3
+returns-3 c = search needs
+
+pub data-number-spec : {M : Type 1} → statement M
+data-number-spec =
+    tie.close (tie.spec enum-told enum-told-2 enum-told-3 returns returns-2 returns-3)

@@ -1,0 +1,12 @@
+-- `boundary_refused::heard_refusal` meets its contract.
+use Rattle.boundary_refused.proofs.heard_refusal.Statement.{statement}
+use Rattle.boundary_refused.proofs.heard_refusal.Tie as tie
+
+returns : tie.Need-returns
+returns c = rw (c .if1 .taken)
+
+returns-2 : tie.Need-returns-2
+returns-2 c = rw (c .if1 .left)
+
+pub heard-refusal-spec : {M : Type 1} → statement M
+heard-refusal-spec = tie.close (tie.spec returns returns-2)
