@@ -1,17 +1,17 @@
 -- `boundary_counting::counts` meets its contract.
-use Rattle.laws.specs.Usual.{sym, ap, _∙_, Bool, _||_, needs}
+use Rattle.laws.specs.Usual.{sym, ap, _∙_, Bool, _||_}
 use Rattle.boundary_waiting.specs.Waiting.{isWaiting}
 use Rattle.boundary_counting.proofs.counts.Statement.{statement}
 use Rattle.boundary_counting.proofs.counts.Tie as tie
 
 is-quiet-requires : tie.Need-is-quiet-requires
-is-quiet-requires c κs = search needs
+is-quiet-requires c κs = tt
 
 returns : tie.Need-returns
 returns c = ap (λ (quiet : Bool). quiet || isWaiting (c .before .before .args .core)) (sym (sym (c .before .is-quiet .ensures) ∙ c .if1 .taken))
 
 is-waiting-requires : tie.Need-is-waiting-requires
-is-waiting-requires c κs = search needs
+is-waiting-requires c κs = tt
 
 returns-2 : tie.Need-returns-2
 returns-2 c = c .is-waiting .ensures ∙ ap (λ (quiet : Bool). quiet || isWaiting (c .before .before .before .args .core)) (sym (sym (c .before .before .is-quiet .ensures) ∙ c .before .if1 .left))

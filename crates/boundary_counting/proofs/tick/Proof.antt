@@ -1,5 +1,5 @@
 -- `boundary_counting::tick` meets its contract.
-use Rattle.laws.specs.Usual.{sym, ap, _∙_, needs}
+use Rattle.laws.specs.Usual.{sym, ap, _∙_}
 use borrow.Author.Tests.{ne-eqb}
 use Rattle.boundary_answers.specs.Numbers.{tickedAnswer}
 use Rattle.boundary_core.specs.Crossing.{coreOf}
@@ -14,16 +14,16 @@ use Rattle.boundary_counting.proofs.tick.Statement.{statement}
 use Rattle.boundary_counting.proofs.tick.Tie as tie
 
 watch-time-requires : tie.Need-watch-time-requires
-watch-time-requires c κs = search needs
+watch-time-requires c κs = tt
 
 counts-requires : tie.Need-counts-requires
-counts-requires c κs = search needs
+counts-requires c κs = tt
 
 count-requires : tie.Need-count-requires
-count-requires c κs = search needs
+count-requires c κs = tt
 
 done-requires : tie.Need-done-requires
-done-requires c κs = search needs
+done-requires c κs = tt
 
 returns : tie.Need-returns
 returns c =
@@ -67,10 +67,10 @@ returns-4 : tie.Need-returns-4
 returns-4 c = c .tick-joining .ensures
 
 kept-requires : tie.Need-kept-requires
-kept-requires c κs = search needs
+kept-requires c κs = tt
 
 ticked-answer-requires : tie.Need-ticked-answer-requires
-ticked-answer-requires c κs = search needs
+ticked-answer-requires c κs = tt
 
 returns-5 : tie.Need-returns-5
 returns-5 c =

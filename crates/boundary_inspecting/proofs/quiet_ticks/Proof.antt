@@ -1,5 +1,5 @@
 -- `boundary_inspecting::quiet_ticks` meets its contract.
-use Rattle.laws.specs.Usual.{ap, _∙_, needs}
+use Rattle.laws.specs.Usual.{ap, _∙_}
 use Rattle.boundary_core.specs.Crossing.{stationIn}
 use Rattle.boundary_core.specs.declared.Core.{Core}
 use Rattle.boundary_quiet.specs.Numbers.{quietNumbers}
@@ -8,10 +8,10 @@ use Rattle.boundary_inspecting.proofs.quiet_ticks.Statement.{statement}
 use Rattle.boundary_inspecting.proofs.quiet_ticks.Tie as tie
 
 core-in-requires : tie.Need-core-in-requires
-core-in-requires c κs = search needs
+core-in-requires c κs = tt
 
 quiet-ticks-requires : tie.Need-quiet-ticks-requires
-quiet-ticks-requires c κs = search needs
+quiet-ticks-requires c κs = tt
 
 returns : tie.Need-returns
 returns c areas misses =

@@ -1,14 +1,14 @@
 -- `boundary_many_ticks::is_alone` meets its contract.
 use borrow.Author.Tests.{not-true, not-false}
-use Rattle.laws.specs.Usual.{_&&_, eqb, needs}
+use Rattle.laws.specs.Usual.{_&&_, eqb}
 use Rattle.boundary_many_ticks.proofs.is_alone.Statement.{statement}
 use Rattle.boundary_many_ticks.proofs.is_alone.Tie as tie
 
 phase-of-requires : tie.Need-phase-of-requires
-phase-of-requires c κs = search needs
+phase-of-requires c κs = tt
 
 is-participating-requires : tie.Need-is-participating-requires
-is-participating-requires c κs = search needs
+is-participating-requires c κs = tt
 
 returns : tie.Need-returns
 returns c =
@@ -16,10 +16,10 @@ returns c =
     rw (← c .before .before .before .phase-of .ensures, ← c .before .before .is-participating .ensures, not-true (c .before .before .is-participating .result && eqb (core .view) (core .own .number)) (c .if1 .taken))
 
 next-after-requires : tie.Need-next-after-requires
-next-after-requires c κs = search needs
+next-after-requires c κs = tt
 
 is-listed-requires : tie.Need-is-listed-requires
-is-listed-requires c κs = search needs
+is-listed-requires c κs = tt
 
 returns-2 : tie.Need-returns-2
 returns-2 c =

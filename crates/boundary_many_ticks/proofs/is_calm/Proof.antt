@@ -1,13 +1,12 @@
 -- `boundary_many_ticks::is_calm` meets its contract.
-use borrow.Author.Needs.{needs}
 use Rattle.boundary_many_ticks.proofs.is_calm.Statement.{statement}
 use Rattle.boundary_many_ticks.proofs.is_calm.Tie as tie
 
 phase-of-requires : tie.Need-phase-of-requires
-phase-of-requires c κs = search needs
+phase-of-requires c κs = tt
 
 calm-in-requires : tie.Need-calm-in-requires
-calm-in-requires c κs = search needs
+calm-in-requires c κs = tt
 
 returns : tie.Need-returns
 returns c = rw (c .calm-in .ensures, c .before .phase-of .ensures)

@@ -1,26 +1,26 @@
 -- `boundary_many_ticks::jump` meets its contract.
-use Rattle.laws.specs.Usual.{[], _<_, arith, needs}
+use Rattle.laws.specs.Usual.{[], _<_, arith}
 use Rattle.boundary_many_ticks.specs.Jump.{jumps-in}
 use Rattle.boundary_many_ticks.proofs.jump.Statement.{statement}
 use Rattle.boundary_many_ticks.proofs.jump.Tie as tie
 
 phase-of-requires : tie.Need-phase-of-requires
-phase-of-requires c κs = search needs
+phase-of-requires c κs = tt
 
 is-alone-requires : tie.Need-is-alone-requires
-is-alone-requires c κs = search needs
+is-alone-requires c κs = tt
 
 watch-time-requires : tie.Need-watch-time-requires
-watch-time-requires c κs = search needs
+watch-time-requires c κs = tt
 
 counts-in-requires : tie.Need-counts-in-requires
-counts-in-requires c κs = search needs
+counts-in-requires c κs = tt
 
 jump-requires : tie.Need-jump-requires
-jump-requires c κs = search needs
+jump-requires c κs = tt
 
 with-counts-requires : tie.Need-with-counts-requires
-with-counts-requires c κs = search needs
+with-counts-requires c κs = tt
 
 returns : tie.Need-returns
 returns c =

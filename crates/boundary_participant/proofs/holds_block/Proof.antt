@@ -1,10 +1,9 @@
 -- `boundary_participant::holds_block` meets its contract.
-use borrow.Author.Needs.{needs}
 use Rattle.boundary_participant.proofs.holds_block.Statement.{statement}
 use Rattle.boundary_participant.proofs.holds_block.Tie as tie
 
 is-placed-requires : tie.Need-is-placed-requires
-is-placed-requires c κs = search needs
+is-placed-requires c κs = tt
 
 returns : tie.Need-returns
 returns c = rw (c .is-placed .ensures)

@@ -1,54 +1,54 @@
 -- `boundary_quiet::quiet_ticks` meets its contract.
-use Rattle.laws.specs.Usual.{sym, _∙_, needs}
+use Rattle.laws.specs.Usual.{sym, _∙_}
 use Rattle.station.specs.declared.Phase.the-variants.{Off, Listening, Startup, Joining, Participating}
 use Rattle.boundary_quiet.specs.Numbers.{quiet-by}
 use Rattle.boundary_quiet.proofs.quiet_ticks.Statement.{statement}
 use Rattle.boundary_quiet.proofs.quiet_ticks.Tie as tie
 
 phase-of-requires : tie.Need-phase-of-requires
-phase-of-requires c κs = search needs
+phase-of-requires c κs = tt
 
 watch-time-requires : tie.Need-watch-time-requires
-watch-time-requires c κs = search needs
+watch-time-requires c κs = tt
 
 left-in-requires : tie.Need-left-in-requires
-left-in-requires c κs = search needs
+left-in-requires c κs = tt
 
 enum-told : tie.Need-enum-told
-enum-told c = search needs
+enum-told c = c .match .keys1
 
 unless-requires : tie.Need-unless-requires
-unless-requires c κs = search needs
+unless-requires c κs = tt
 
 enum-told-2 : tie.Need-enum-told-2
-enum-told-2 c = search needs
+enum-told-2 c = c .match .keys2
 
 listening-time-requires : tie.Need-listening-time-requires
-listening-time-requires c κs = search needs
+listening-time-requires c κs = tt
 
 unless-requires-2 : tie.Need-unless-requires-2
-unless-requires-2 c κs = search needs
+unless-requires-2 c κs = tt
 
 enum-told-3 : tie.Need-enum-told-3
-enum-told-3 c = search needs
+enum-told-3 c = c .match .keys3
 
 unless-requires-3 : tie.Need-unless-requires-3
-unless-requires-3 c κs = search needs
+unless-requires-3 c κs = tt
 
 enum-told-4 : tie.Need-enum-told-4
-enum-told-4 c = search needs
+enum-told-4 c = c .match .keys4
 
 unless-requires-4 : tie.Need-unless-requires-4
-unless-requires-4 c κs = search needs
+unless-requires-4 c κs = tt
 
 enum-told-5 : tie.Need-enum-told-5
-enum-told-5 c = search needs
+enum-told-5 c = c .match .keys5
 
 next-after-requires : tie.Need-next-after-requires
-next-after-requires c κs = search needs
+next-after-requires c κs = tt
 
 unless-requires-5 : tie.Need-unless-requires-5
-unless-requires-5 c κs = search needs
+unless-requires-5 c κs = tt
 
 returns : tie.Need-returns
 returns c = λ areas misses.

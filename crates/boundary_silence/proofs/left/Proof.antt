@@ -1,10 +1,10 @@
 -- `boundary_silence::left` meets its contract.
-use Rattle.laws.specs.Usual.{_∙_, needs}
+use Rattle.laws.specs.Usual.{_∙_}
 use Rattle.boundary_silence.proofs.left.Statement.{statement}
 use Rattle.boundary_silence.proofs.left.Tie as tie
 
 without-requires : tie.Need-without-requires
-without-requires c κs = search needs
+without-requires c κs = tt
 
 returns : tie.Need-returns
 returns c = c .without .ensures ∙ rw (c .before .if1 .taken)

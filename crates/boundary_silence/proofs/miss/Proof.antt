@@ -1,5 +1,5 @@
 -- `boundary_silence::miss` meets its contract.
-use Rattle.laws.specs.Usual.{sym, ap, _∙_, needs}
+use Rattle.laws.specs.Usual.{sym, ap, _∙_}
 use Rattle.boundary_lists.specs.Lists.{membersIn}
 use Rattle.members.specs.Members.{withEntry}
 use Rattle.members.specs.declared.Entry.{Entry}
@@ -8,13 +8,13 @@ use Rattle.boundary_silence.proofs.miss.Statement.{statement}
 use Rattle.boundary_silence.proofs.miss.Tie as tie
 
 entry-at-requires : tie.Need-entry-at-requires
-entry-at-requires c κs = search needs
+entry-at-requires c κs = tt
 
 missed-entry-requires : tie.Need-missed-entry-requires
-missed-entry-requires c κs = search needs
+missed-entry-requires c κs = tt
 
 put-requires : tie.Need-put-requires
-put-requires c κs = search needs
+put-requires c κs = tt
 
 returns : tie.Need-returns
 returns c =

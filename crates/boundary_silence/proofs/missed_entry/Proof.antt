@@ -5,7 +5,7 @@ use Rattle.boundary_silence.proofs.missed_entry.Statement.{statement}
 use Rattle.boundary_silence.proofs.missed_entry.Tie as tie
 
 no-areas-requires : tie.Need-no-areas-requires
-no-areas-requires c κs = search needs
+no-areas-requires c κs = tt
 
 returns : tie.Need-returns
 returns c = rw (c .no-areas .ensures, le-leb _ _ (c .before .if1 .taken))

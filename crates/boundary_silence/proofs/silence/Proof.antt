@@ -1,16 +1,16 @@
 -- `boundary_silence::silence` meets its contract.
-use Rattle.laws.specs.Usual.{_∙_, needs}
+use Rattle.laws.specs.Usual.{_∙_}
 use Rattle.boundary_silence.proofs.silence.Statement.{statement}
 use Rattle.boundary_silence.proofs.silence.Tie as tie
 
 tick-requires : tie.Need-tick-requires
-tick-requires c κs = search needs
+tick-requires c κs = tt
 
 left-requires : tie.Need-left-requires
-left-requires c κs = search needs
+left-requires c κs = tt
 
 restart-requires : tie.Need-restart-requires
-restart-requires c κs = search needs
+restart-requires c κs = tt
 
 returns : tie.Need-returns
 returns c = c .restart .ensures ∙ rw (c .before .before .before .before .before .left .ensures, c .before .before .before .before .before .before .tick .ensures)

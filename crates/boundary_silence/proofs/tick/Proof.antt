@@ -1,5 +1,5 @@
 -- `boundary_silence::tick` meets its contract.
-use Rattle.laws.specs.Usual.{sym, ap, ap₂, _∙_, needs}
+use Rattle.laws.specs.Usual.{sym, ap, ap₂, _∙_}
 use Rattle.boundary_answers.specs.Numbers.{tickedAnswer}
 use Rattle.boundary_core.specs.Crossing.{coreOf}
 use Rattle.boundary_lists.specs.Laws.{next-in}
@@ -10,19 +10,19 @@ use Rattle.boundary_silence.proofs.tick.Statement.{statement}
 use Rattle.boundary_silence.proofs.tick.Tie as tie
 
 next-after-requires : tie.Need-next-after-requires
-next-after-requires c κs = search needs
+next-after-requires c κs = tt
 
 entry-at-requires : tie.Need-entry-at-requires
-entry-at-requires c κs = search needs
+entry-at-requires c κs = tt
 
 miss-requires : tie.Need-miss-requires
-miss-requires c κs = search needs
+miss-requires c κs = tt
 
 silence-requires : tie.Need-silence-requires
-silence-requires c κs = search needs
+silence-requires c κs = tt
 
 done-requires : tie.Need-done-requires
-done-requires c κs = search needs
+done-requires c κs = tt
 
 returns : tie.Need-returns
 returns c =

@@ -1,5 +1,5 @@
 -- `boundary_ticks::tick` meets its contract.
-use Rattle.laws.specs.Usual.{sym, _∙_, needs}
+use Rattle.laws.specs.Usual.{sym, _∙_}
 use Rattle.boundary_answers.specs.Numbers.{tickedAnswer}
 use Rattle.boundary_core.specs.Crossing.{stationIn}
 use Rattle.boundary_core.specs.declared.Core.{Core}
@@ -11,22 +11,22 @@ use Rattle.boundary_ticks.proofs.tick.Statement.{statement}
 use Rattle.boundary_ticks.proofs.tick.Tie as tie
 
 core-in-requires : tie.Need-core-in-requires
-core-in-requires c κs = search needs
+core-in-requires c κs = tt
 
 watch-time-requires : tie.Need-watch-time-requires
-watch-time-requires c κs = search needs
+watch-time-requires c κs = tt
 
 counts-requires : tie.Need-counts-requires
-counts-requires c κs = search needs
+counts-requires c κs = tt
 
 count-requires : tie.Need-count-requires
-count-requires c κs = search needs
+count-requires c κs = tt
 
 keep-requires : tie.Need-keep-requires
-keep-requires c κs = search needs
+keep-requires c κs = tt
 
 done-requires : tie.Need-done-requires
-done-requires c κs = search needs
+done-requires c κs = tt
 
 returns : tie.Need-returns
 returns c =
@@ -41,10 +41,10 @@ returns c =
     (c .before .keep .ensures .0, (c .before .keep .ensures .1, c .done .ensures))
 
 tick-requires : tie.Need-tick-requires
-tick-requires c κs = search needs
+tick-requires c κs = tt
 
 keep-outcome-requires : tie.Need-keep-outcome-requires
-keep-outcome-requires c κs = search needs
+keep-outcome-requires c κs = tt
 
 returns-2 : tie.Need-returns-2
 returns-2 c =

@@ -1,10 +1,9 @@
 -- `boundary_watch::is_quiet` meets its contract.
-use borrow.Author.Needs.{needs}
 use Rattle.boundary_watch.proofs.is_quiet.Statement.{statement}
 use Rattle.boundary_watch.proofs.is_quiet.Tie as tie
 
 watch-ends-requires : tie.Need-watch-ends-requires
-watch-ends-requires c κs = search needs
+watch-ends-requires c κs = tt
 
 returns : tie.Need-returns
 returns c = rw (c .watch-ends .ensures)

@@ -16,7 +16,7 @@ element-copy-out-time : tie.Need-element-copy-out-time
 element-copy-out-time c = search needs
 
 watch-time-requires : tie.Need-watch-time-requires
-watch-time-requires c κs = search needs
+watch-time-requires c κs = tt
 
 returns : tie.Need-returns
 returns c = λ areas misses.

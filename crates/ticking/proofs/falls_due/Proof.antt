@@ -1,13 +1,13 @@
 -- `ticking::falls_due` meets its contract.
-use Rattle.laws.specs.Usual.{_∙_, needs}
+use Rattle.laws.specs.Usual.{_∙_}
 use Rattle.ticking.proofs.falls_due.Statement.{statement}
 use Rattle.ticking.proofs.falls_due.Tie as tie
 
 wait-ends-requires : tie.Need-wait-ends-requires
-wait-ends-requires c κs = search needs
+wait-ends-requires c κs = tt
 
 own-due-requires : tie.Need-own-due-requires
-own-due-requires c κs = search needs
+own-due-requires c κs = tt
 
 returns : tie.Need-returns
 returns c = c .own-due .ensures ∙ rw (← c .before .before .wait-ends .ensures, c .before .if1 .taken)

@@ -1,16 +1,16 @@
 -- `ticking::left` meets its contract.
-use Rattle.laws.specs.Usual.{_∙_, needs}
+use Rattle.laws.specs.Usual.{_∙_}
 use Rattle.ticking.proofs.left.Statement.{statement}
 use Rattle.ticking.proofs.left.Tie as tie
 
 is-listed-requires : tie.Need-is-listed-requires
-is-listed-requires c κs = search needs
+is-listed-requires c κs = tt
 
 strikes-requires : tie.Need-strikes-requires
-strikes-requires c κs = search needs
+strikes-requires c κs = tt
 
 without-requires : tie.Need-without-requires
-without-requires c κs = search needs
+without-requires c κs = tt
 
 returns : tie.Need-returns
 returns c = c .without .ensures ∙ rw (← c .before .before .before .is-listed .ensures, ← c .before .before .strikes .ensures, c .before .if1 .taken)

@@ -1,5 +1,5 @@
 -- `ticking::participant_tick` meets its contract.
-use Rattle.laws.specs.Usual.{_≡_, sym, ap, _∙_, Bool, cond, _+_, leb, needs}
+use Rattle.laws.specs.Usual.{_≡_, sym, ap, _∙_, Bool, cond, _+_, leb}
 use Rattle.panel.specs.Panel.{ticked}
 use Rattle.station.specs.Rules.State.{counted}
 use Rattle.station.specs.Rules.Ticking.{watchTime, watchEnds, watchEnded}
@@ -20,13 +20,13 @@ module _ (station : Station) (elapsed : Ticks) {time : Milliseconds} {ends test 
   by-time = ap after (sym came ∙ told ∙ ap (λ (t : Milliseconds). leb (watchTicks t) (station .elapsed .0 + 1)) timed)
 
 watch-time-requires : tie.Need-watch-time-requires
-watch-time-requires c κs = search needs
+watch-time-requires c κs = tt
 
 watch-ends-requires : tie.Need-watch-ends-requires
-watch-ends-requires c κs = search needs
+watch-ends-requires c κs = tt
 
 watch-ended-requires : tie.Need-watch-ended-requires
-watch-ended-requires c κs = search needs
+watch-ended-requires c κs = tt
 
 returns : tie.Need-returns
 returns c =
@@ -35,10 +35,10 @@ returns c =
     ∙ by-time (a .station) (a .elapsed) (c .before .before .before .watch-time .ensures) (c .before .before .watch-ends .ensures) (c .before .if1 .taken)
 
 tick-requires : tie.Need-tick-requires
-tick-requires c κs = search needs
+tick-requires c κs = tt
 
 count-requires : tie.Need-count-requires
-count-requires c κs = search needs
+count-requires c κs = tt
 
 returns-2 : tie.Need-returns-2
 returns-2 c =

@@ -1,54 +1,54 @@
 -- `ticking::tick_on` meets its contract.
-use Rattle.laws.specs.Usual.{sym, ap, _∙_, needs}
+use Rattle.laws.specs.Usual.{sym, ap, _∙_}
 use Rattle.station.specs.Rules.Ticking.{tickedBy}
 use Rattle.station.specs.declared.Phase.{Phase}
 use Rattle.ticking.proofs.tick_on.Statement.{statement}
 use Rattle.ticking.proofs.tick_on.Tie as tie
 
 enum-told : tie.Need-enum-told
-enum-told c = search needs
+enum-told c = c .match .keys1
 
 enum-told-2 : tie.Need-enum-told-2
-enum-told-2 c = search needs
+enum-told-2 c = c .match .keys2
 
 listening-tick-requires : tie.Need-listening-tick-requires
-listening-tick-requires c κs = search needs
+listening-tick-requires c κs = tt
 
 enum-told-3 : tie.Need-enum-told-3
-enum-told-3 c = search needs
+enum-told-3 c = c .match .keys3
 
 acceptance-time-requires : tie.Need-acceptance-time-requires
-acceptance-time-requires c κs = search needs
+acceptance-time-requires c κs = tt
 
 later-requires : tie.Need-later-requires
-later-requires c κs = search needs
+later-requires c κs = tt
 
 startup-tick-requires : tie.Need-startup-tick-requires
-startup-tick-requires c κs = search needs
+startup-tick-requires c κs = tt
 
 enum-told-4 : tie.Need-enum-told-4
-enum-told-4 c = search needs
+enum-told-4 c = c .match .keys4
 
 detection-wait-requires : tie.Need-detection-wait-requires
-detection-wait-requires c κs = search needs
+detection-wait-requires c κs = tt
 
 later-requires-2 : tie.Need-later-requires-2
-later-requires-2 c κs = search needs
+later-requires-2 c κs = tt
 
 joining-tick-requires : tie.Need-joining-tick-requires
-joining-tick-requires c κs = search needs
+joining-tick-requires c κs = tt
 
 enum-told-5 : tie.Need-enum-told-5
-enum-told-5 c = search needs
+enum-told-5 c = c .match .keys5
 
 longest-watch-requires : tie.Need-longest-watch-requires
-longest-watch-requires c κs = search needs
+longest-watch-requires c κs = tt
 
 later-requires-3 : tie.Need-later-requires-3
-later-requires-3 c κs = search needs
+later-requires-3 c κs = tt
 
 participant-tick-requires : tie.Need-participant-tick-requires
-participant-tick-requires c κs = search needs
+participant-tick-requires c κs = tt
 
 returns : tie.Need-returns
 returns c = sym (ap (λ (p : Phase). tickedBy p (c .before .before .before .args .station)) (c .enum-told .given .1))

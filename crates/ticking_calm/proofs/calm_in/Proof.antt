@@ -1,5 +1,4 @@
 -- `ticking_calm::calm_in` meets its contract.
-use borrow.Author.Needs.{needs}
 use Rattle.ticking_calm.proofs.calm_in.Statement.{statement}
 use Rattle.ticking_calm.proofs.calm_in.Tie as tie
 

@@ -1,5 +1,4 @@
 -- `ticking_calm::counts_after` meets its contract.
-use borrow.Author.Needs.{needs}
 use Rattle.ticking_calm.proofs.counts_after.Statement.{statement}
 use Rattle.ticking_calm.proofs.counts_after.Tie as tie
 

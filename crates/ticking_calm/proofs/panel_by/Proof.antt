@@ -1,5 +1,5 @@
 -- `ticking_calm::panel_by` meets its contract.
-use Rattle.laws.specs.Usual.{sym, needs}
+use Rattle.laws.specs.Usual.{sym}
 use Rattle.ticking_calm.specs.Sums.{ticked-by}
 use Rattle.ticking_calm.proofs.panel_by.Statement.{statement}
 use Rattle.ticking_calm.proofs.panel_by.Tie as tie

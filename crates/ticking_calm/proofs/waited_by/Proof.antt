@@ -1,5 +1,5 @@
 -- `ticking_calm::waited_by` meets its contract.
-use Rattle.laws.specs.Usual.{_∙_, needs}
+use Rattle.laws.specs.Usual.{_∙_}
 use borrow.Author.Tests.{eq-eqb, ne-eqb}
 use Rattle.ticking_calm.proofs.waited_by.Statement.{statement}
 use Rattle.ticking_calm.proofs.waited_by.Tie as tie

@@ -5,7 +5,7 @@ use Rattle.ticking_jump.proofs.go_round.Statement.{statement}
 use Rattle.ticking_jump.proofs.go_round.Tie as tie
 
 watch-ticks-requires : tie.Need-watch-ticks-requires
-watch-ticks-requires c κs = search needs
+watch-ticks-requires c κs = tt
 
 cast-place : tie.Need-cast-place
 cast-place c = search needs
@@ -20,7 +20,7 @@ rem-place : tie.Need-rem-place
 rem-place c = search needs
 
 counts-after-requires : tie.Need-counts-after-requires
-counts-after-requires c κs = search needs
+counts-after-requires c κs = tt
 
 cast-t14 : tie.Need-cast-t14
 cast-t14 c =

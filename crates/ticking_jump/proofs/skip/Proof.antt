@@ -1,14 +1,14 @@
 -- `ticking_jump::skip` meets its contract.
-use Rattle.laws.specs.Usual.{arith, needs}
+use Rattle.laws.specs.Usual.{arith}
 use Rattle.ticking_calm.specs.CalmTicks.{calm-few}
 use Rattle.ticking_jump.proofs.skip.Statement.{statement}
 use Rattle.ticking_jump.proofs.skip.Tie as tie
 
 calm-in-requires : tie.Need-calm-in-requires
-calm-in-requires c κs = search needs
+calm-in-requires c κs = tt
 
 counts-after-requires : tie.Need-counts-after-requires
-counts-after-requires c κs = search needs
+counts-after-requires c κs = tt
 
 sub-ticks : tie.Need-sub-ticks
 sub-ticks c =

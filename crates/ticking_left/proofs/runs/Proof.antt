@@ -1,5 +1,4 @@
 -- `ticking_left::runs` meets its contract.
-use borrow.Author.Needs.{needs}
 use Rattle.ticking_left.proofs.runs.Statement.{statement}
 use Rattle.ticking_left.proofs.runs.Tie as tie
 

@@ -1,5 +1,4 @@
 -- `ticking_left::startup_left` meets its contract.
-use borrow.Author.Needs.{needs}
 use Rattle.ticking_left.proofs.startup_left.Statement.{statement}
 use Rattle.ticking_left.proofs.startup_left.Tie as tie
 

@@ -1,23 +1,23 @@
 -- `ticking_many::is_alone` meets its contract.
 use borrow.Author.Tests.{not-true, not-false}
-use Rattle.laws.specs.Usual.{_&&_, needs}
+use Rattle.laws.specs.Usual.{_&&_}
 use Rattle.ticking_many.proofs.is_alone.Statement.{statement}
 use Rattle.ticking_many.proofs.is_alone.Tie as tie
 
 is-participating-requires : tie.Need-is-participating-requires
-is-participating-requires c κs = search needs
+is-participating-requires c κs = tt
 
 holds-requires : tie.Need-holds-requires
-holds-requires c κs = search needs
+holds-requires c κs = tt
 
 returns : tie.Need-returns
 returns c = rw (← c .before .before .is-participating .ensures, ← c .before .holds .ensures, not-true (c .before .before .is-participating .result && c .before .holds .result) (c .if1 .taken))
 
 next-after-requires : tie.Need-next-after-requires
-next-after-requires c κs = search needs
+next-after-requires c κs = tt
 
 is-listed-requires : tie.Need-is-listed-requires
-is-listed-requires c κs = search needs
+is-listed-requires c κs = tt
 
 returns-2 : tie.Need-returns-2
 returns-2 c =

@@ -1,17 +1,17 @@
 -- `ticking_many::jump` meets its contract.
-use Rattle.laws.specs.Usual.{_<_, arith, needs}
+use Rattle.laws.specs.Usual.{_<_, arith}
 use Rattle.ticking_jump.specs.JumpTicks.{jump-ticks}
 use Rattle.ticking_many.proofs.jump.Statement.{statement}
 use Rattle.ticking_many.proofs.jump.Tie as tie
 
 is-alone-requires : tie.Need-is-alone-requires
-is-alone-requires c κs = search needs
+is-alone-requires c κs = tt
 
 watch-time-requires : tie.Need-watch-time-requires
-watch-time-requires c κs = search needs
+watch-time-requires c κs = tt
 
 jump-requires : tie.Need-jump-requires
-jump-requires c κs = search needs
+jump-requires c κs = tt
 
 returns : tie.Need-returns
 returns c =

@@ -1,5 +1,4 @@
 -- `waits::wait_ends` meets its contract.
-use borrow.Author.Needs.{needs}
 use Rattle.waits.proofs.wait_ends.Statement.{statement}
 use Rattle.waits.proofs.wait_ends.Tie as tie
 use Rattle.waits.proofs.wait_ends.Reads as reads
@@ -7,7 +6,7 @@ use Rattle.waits.proofs.wait_ends.Lts as lts
 use Rattle.waits_lengths.proofs.number_wait.Reads as number-wait-reads
 
 number-wait-requires : tie.Need-number-wait-requires
-number-wait-requires c κs = search needs
+number-wait-requires c κs = tt
 
 returns : tie.Need-returns
 returns c = rw (c .before .before .before .before .number-wait .ensures)

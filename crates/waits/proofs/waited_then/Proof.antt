@@ -1,14 +1,14 @@
 -- `waits::waited_then` meets its contract.
-use Rattle.laws.specs.Usual.{_∙_, needs}
+use Rattle.laws.specs.Usual.{_∙_}
 use borrow.Author.Tests.{eq-eqb, ne-eqb}
 use Rattle.waits.proofs.waited_then.Statement.{statement}
 use Rattle.waits.proofs.waited_then.Tie as tie
 
 number-wait-requires : tie.Need-number-wait-requires
-number-wait-requires c κs = search needs
+number-wait-requires c κs = tt
 
 later-requires : tie.Need-later-requires
-later-requires c κs = search needs
+later-requires c κs = tt
 
 returns : tie.Need-returns
 returns c = c .later .ensures ∙ rw (c .before .number-wait .ensures, eq-eqb _ _ (c .before .before .if1 .taken))

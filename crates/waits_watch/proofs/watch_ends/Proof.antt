@@ -4,7 +4,7 @@ use Rattle.waits_watch.proofs.watch_ends.Statement.{statement}
 use Rattle.waits_watch.proofs.watch_ends.Tie as tie
 
 watch-ticks-requires : tie.Need-watch-ticks-requires
-watch-ticks-requires c κs = search needs
+watch-ticks-requires c κs = tt
 
 cast-result : tie.Need-cast-result
 cast-result c = search needs

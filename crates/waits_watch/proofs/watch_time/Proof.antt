@@ -4,7 +4,7 @@ use Rattle.waits_watch.proofs.watch_time.Statement.{statement}
 use Rattle.waits_watch.proofs.watch_time.Tie as tie
 
 counts-as-requires : tie.Need-counts-as-requires
-counts-as-requires c κs = search needs
+counts-as-requires c κs = tt
 
 returns : tie.Need-returns
 returns c = rw (c .if1 .taken)
