@@ -62,7 +62,7 @@ endsWatch station = isParticipating (station .phase) && watchEnds station
 
 -- "any call that is refused, or any other call but a tick, a stop, an asking, a cyclic frame of whatever number, or a request of a number
 -- outside the ring"; nor a request with another watch time than the one of the ring: "as long as every listed time stays that one: a request
--- heard with another ends the cover, as a third miss does" (paper 02, E1)
+-- heard with another ends the cover, as a third miss does" (paper 02, E1; `AnotherTime` of ring_worked shows why)
 pub data Stray (numbers : List ℕ) (station : Station) : Call → Type 0 where
   refused : {call : Call} (refusal : Refusal) → verdict station call ≡ refusedBy refusal → Stray numbers station call
   starts : (settings : Settings) → Stray numbers station (start settings)

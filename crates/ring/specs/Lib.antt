@@ -14,8 +14,3 @@ pub mod Just
 pub mod Counted
 pub mod Settles
 pub mod DemandThree
-pub mod Bringing
-pub mod Worked
-pub mod WorkedSilence
-pub mod AnotherTime
-pub mod WorkedDrive

@@ -17,12 +17,12 @@ use Rattle.settling.specs.Steps.{afterAll, EachFinds}
 use Rattle.station.specs.Rules.Calls.{Call, tick, after, unrefused, verdict}
 use Rattle.station.specs.Rules.Waits.{countsAs}
 use Rattle.station.specs.Types.{Fields, Frame}
-use Rattle.ring.specs.Bringing.{tokenOctets, hears, one-heard, three-heard, numbers, at-1, at-3, each}
+use Rattle.ring_worked.specs.Bringing.{tokenOctets, hears, one-heard, three-heard, numbers, at-1, at-3, each}
 use Rattle.ring.specs.Demand.{Disturbed, RingSettles}
 use Rattle.ring.specs.DemandThree.{left-by-calls}
 use Rattle.ring.specs.Events.{Stations, Event, ticked, stray, afterEvent, AllName, CanCome}
-use Rattle.ring.specs.Worked.{Fits, disturbed, passedOn, others-1, others-3, two-fits}
-use Rattle.ring.specs.WorkedSilence.{AllBrought, allFine, tick-comes}
+use Rattle.ring_worked.specs.Worked.{Fits, disturbed, passedOn, others-1, others-3, two-fits}
+use Rattle.ring_worked.specs.WorkedSilence.{AllBrought, allFine, tick-comes}
 
 -- Station 2 has just passed the token to station 3, and the others had station 2 in view.
 abbrev pub stations : Stations

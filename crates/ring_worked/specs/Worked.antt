@@ -11,11 +11,11 @@ use Rattle.station.specs.Rules.Waits.{countsAs}
 use Rattle.station.specs.declared.Phase.the-variants.{Participating}
 use Rattle.station.specs.declared.Station.{Station}
 use Rattle.frame_writing.specs.Writing.{headerOf, frontOf, backOf, fixedFor}
-use Rattle.ring.specs.Bringing.{large, tokenOctets, tokenFields, hears, asks, one, two, three, one-heard, two-last, three-heard, numbers, ascending, at-1, at-3, each, passed}
+use Rattle.ring_worked.specs.Bringing.{large, tokenOctets, tokenFields, hears, asks, one, two, three, one-heard, two-last, three-heard, numbers, ascending, at-1, at-3, each, passed}
 use Rattle.ring.specs.Counts.{passes, silences, given}
 use Rattle.ring.specs.Demand.{LastCall, Disturbed, RingSettles}
 use Rattle.ring.specs.DemandThree.{demand-three}
 use Rattle.ring.specs.Events.{Stations, Event, asked, afterEvent, AllName, CanCome}
 
 -- a station's entry of a number has 2 ms
 abbrev pub Timed : Station → ℕ → Type 0

@@ -16,15 +16,15 @@ use Rattle.station.specs.Rules.State.{isParticipating, holds}
 use Rattle.station.specs.Rules.Ticking.{watchEnds}
 use Rattle.station.specs.declared.Station.{Station}
 use Rattle.frame_writing.specs.Writing.{headerOf, frontOf, backOf, fixedFor}
-use Rattle.ring.specs.Bringing.{tokenOctets, one, two, three, one-reached, two-reached, three-reached, one-heard, three-heard, numbers, ascending, at-1, at-2, at-3, each}
+use Rattle.ring_worked.specs.Bringing.{tokenOctets, one, two, three, one-reached, two-reached, three-reached, one-heard, three-heard, numbers, ascending, at-1, at-2, at-3, each}
 use Rattle.ring.specs.Counts.{passes, silences}
 use Rattle.ring.specs.Demand.{Disturbed, RingSettles}
 use Rattle.ring.specs.DemandThree.{left-by-calls, demand-three}
 use Rattle.ring.specs.Events.{Stations, Event, ticked, afterEvent, AllName, endsWatch, CanCome}
 use Rattle.ring.specs.Member.{InRing}
 use Rattle.ring.specs.Settles.{settles-from}
 use Rattle.ring.specs.Steps.{Ok}
-use Rattle.ring.specs.Worked.{Fits, disturbed, passedOn, others-1, others-2, others-3, two-fits, asksOne, can-come}
+use Rattle.ring_worked.specs.Worked.{Fits, disturbed, passedOn, others-1, others-2, others-3, two-fits, asksOne, can-come}
 
 -- a station whose watch ends does not hold, and strikes nobody
 abbrev pub fine : Station → Bool

@@ -9,8 +9,8 @@ use Rattle.settling.specs.Steps.{afterAll}
 use Rattle.station.specs.Rules.State.{holds}
 use Rattle.station.specs.Types.{Areas}
 use Rattle.station.specs.declared.Settings.{Settings}
-use Rattle.ring.specs.Bringing.{large, up}
+use Rattle.ring_worked.specs.Bringing.{large, up}
 use Rattle.ring.specs.Events.{Stations, Event, asked, ticked, afterEvent}
 
 -- 513 words of area 2
 abbrev wide : Areas

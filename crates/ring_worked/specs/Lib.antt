@@ -1,0 +1,6 @@
+-- Rings of full stations, brought up by calls: two that meet the premises of demand 3, one of which it is false, and a slow drive.
+pub mod Bringing
+pub mod Worked
+pub mod WorkedSilence
+pub mod AnotherTime
+pub mod WorkedDrive

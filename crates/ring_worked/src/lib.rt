@@ -1,0 +1,1 @@
+// Worked rings. There is no code here.
