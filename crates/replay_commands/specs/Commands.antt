@@ -4,7 +4,8 @@ use Rattle.replay_input.specs.Gathering.{longest, sizeIn}
 use Rattle.replay_input.specs.declared.Line.{Line}
 use Rattle.text.specs.Lines.{space}
 use Rattle.text_hexadecimal.specs.Octets.{octetsOf}
-use Rattle.replay_words.specs.Words.{begins, same, wordsBehind, numberIn}
+use Rattle.comparing.specs.Same.{same}
+use Rattle.replay_words.specs.Words.{begins, wordsBehind, numberIn}
 use Rattle.replay_commands.specs.declared.Command.{Command}
 use Rattle.replay_commands.specs.declared.Command.the-variants.{Start, Stop, Tick, Hear, Ask, Panel, Poke, Peek, State, Bad}
 
@@ -99,11 +100,11 @@ numbered line =
 -- all commands but `hear HEX`; "`hear` alone (hears no octets)"
 abbrev pub shortOf : List ℕ → Command
 shortOf line =
-    cond (same stop line) Stop
-    (cond (same ask line) Ask
-    (cond (same panel line) Panel
-    (cond (same state line) State
-    (cond (same hear line) (Hear (record { digits = 5; count = 0 })) (numbered line)))))
+    cond (same line stop) Stop
+    (cond (same line ask) Ask
+    (cond (same line panel) Panel
+    (cond (same line state) State
+    (cond (same line hear) (Hear (record { digits = 5; count = 0 })) (numbered line)))))
 
 -- a line, without its line feed: "a line that is not a command of this form, or out of range, is `bad`". In a line that is longer than the
 -- longest of these a number is out of range, or more is poked than there is room for, so it is bad outright.

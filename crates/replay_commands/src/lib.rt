@@ -1,11 +1,11 @@
 // What a line of the program `replay`'s input means.
 use area::Areas;
 use area::Part;
+use comparing::same;
 use replay_input::Line;
 use replay_input::size_in;
 use replay_words::begins;
 use replay_words::number_at;
-use replay_words::same;
 use replay_words::word_end;
 use station::Settings;
 use text_octets::size_of;

@@ -13,7 +13,8 @@ use Rattle.text_reading.specs.MarkLaws.{before-most}
 use Rattle.text_reading.specs.PartLaws.{part-at, part-length, no-parts, end-place}
 use Rattle.text_reading.specs.Parts.{endOf}
 use Rattle.text.specs.Lines.{space}
-use Rattle.replay_words.specs.Words.{begins, same, wordsBehind, numberIn}
+use Rattle.comparing.specs.Same.{same}
+use Rattle.replay_words.specs.Words.{begins, wordsBehind, numberIn}
 use Rattle.replay_commands.specs.declared.Command.{Command}
 use Rattle.replay_commands.specs.declared.Command.the-variants.{Start, Stop, Tick, Hear, Ask, Panel, Peek, State, Bad}
 use Rattle.replay_input.specs.Gathering.{longest, fresh, pushedAll, bufferAll}
@@ -139,11 +140,11 @@ module _ (line buffer : List ℕ) (kept : Kept) (full : length buffer ≡ longes
 
   same-short : length line ≤ 34823 → Same (shortOf line)
   same-short short =
-      either (same stop line) (bare Stop refl)
-      (either (same ask line) (bare Ask refl)
-      (either (same panel line) (bare Panel refl)
-      (either (same state line) (bare State refl)
-      (either (same hear line) (bare (Hear (record { digits = 5; count = 0 })) refl)
+      either (same line stop) (bare Stop refl)
+      (either (same line ask) (bare Ask refl)
+      (either (same line panel) (bare Panel refl)
+      (either (same line state) (bare State refl)
+      (either (same line hear) (bare (Hear (record { digits = 5; count = 0 })) refl)
       (either (begins startSpace line) (same-start (wordsBehind line 5))
       (either (begins tickSpace line) (same-tick (wordsBehind line 4))
       (either (begins pokeSpace line) (same-poke short)

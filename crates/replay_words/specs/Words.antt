@@ -1,18 +1,15 @@
 -- The words of a line, and words as numbers. Words in quotes are those of the table of commands.
-use Rattle.laws.specs.Usual.{Bool, true, false, _&&_, List, [], _∷_, ℕ, length, getD, eqb}
+use Rattle.laws.specs.Usual.{Bool, true, false, _&&_, List, [], _∷_, ℕ, getD, eqb}
 use Rattle.text.specs.Lines.{space}
 use Rattle.text_reading.specs.Parts.{partsBehind, endOf}
 use Rattle.text_reading.specs.Values.{decimalIn, numberOr}
 use Rattle.replay_words.specs.declared.Number.{Number}
 
--- whether a line begins with a word, and whether it is that word
+-- whether a line begins with a word
 abbrev pub begins : List ℕ → List ℕ → Bool
 begins [] line = true
 begins (letter ∷ word) [] = false
 begins (letter ∷ word) (octet ∷ line) = eqb octet letter && begins word line
-
-abbrev pub same : List ℕ → List ℕ → Bool
-same word line = eqb (length line) (length word) && begins word line
 
 -- the words behind the space at a place of the line: none where the line has ended
 abbrev pub wordsBehind : List ℕ → ℕ → List (List ℕ)

@@ -5,7 +5,7 @@ use text_reading::place_from;
 ghost use Rattle.laws.specs.Usual.{_≡_, _+_, drop};
 ghost use Rattle.text.specs.Lines.{space};
 ghost use Rattle.text_reading.specs.Marks.{before};
-ghost use Rattle.replay_words.specs.Words.{begins, same, decimal, numberAt};
+ghost use Rattle.replay_words.specs.Words.{begins, decimal, numberAt};
 
 // A word of a line as a number, and the place where it ends: its space, or the line's end.
 pub struct Number {
@@ -28,13 +28,6 @@ pub fn begins(line: &[u8], word: &[u8]) -> bool
         i += 1;
     }
     true
-}
-
-// Whether the line is the word.
-pub fn same(line: &[u8], word: &[u8]) -> bool
-    ensures { λ r. ⌜ r ≡ same (now (word .entry)) (now (line .entry)) ⌝ }
-{
-    (line.len() == word.len()) & begins(line, word)
 }
 
 // The place of the first space from a place on, or behind the line's end.
