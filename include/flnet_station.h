@@ -85,6 +85,7 @@ extern "C" {
 #define FLNET_DATA_KEPT 0    /* as a block, in the assembly buffer */
 #define FLNET_DATA_WRITTEN 1 /* the whole turn, to the common memory */
 #define FLNET_DATA_DROPPED 2
+#define FLNET_DATA_REPEAT 3  /* the last block still gathered, heard once more: passed over */
 
 /* What the panel shows. */
 #define FLNET_PANEL_NOTHING 0 /* "--": fewer than two takings of the token, or not participating */
@@ -238,7 +239,8 @@ flnet_quiet_ticks flnet_quiet(const flnet_core *core, const bool *listed, const 
 /*
  * A frame from the wire, but not one of ours that the network gives back: a station that hears its own number before it participates is
  * turned off (number 6). Off, done, cyclic, or refused with any number but 10. A finished turn is written to its source's areas of the
- * common memory. A block that is kept or finishes a turn is stored in the assembly buffer, which the host lends again as it was left.
+ * common memory. A block that is kept or finishes a turn is stored in the assembly buffer, which the host lends again as it was left. A copy of
+ * the last block still gathered, octet by octet as that buffer has it, is passed over: its data leave all as it was, its token is still read.
  */
 flnet_answer flnet_hear(flnet_core *core, bool *listed, uint16_t *areas, uint8_t *watch, uint8_t *misses, const uint8_t *octets,
                         size_t octets_length, uint8_t *memory, size_t memory_length, uint8_t *assembly, size_t assembly_length);

@@ -18,6 +18,7 @@ pub const WORD_REFUSED: u8 = 4;
 pub const KEPT: u8 = 0;
 pub const WRITTEN: u8 = 1;
 pub const DROPPED: u8 = 2;
+pub const REPEAT: u8 = 3;
 
 pub const TOKENS: [&str; 5] = [
     "none",
@@ -26,7 +27,7 @@ pub const TOKENS: [&str; 5] = [
     "rival passed over",
     "rival won",
 ];
-pub const DATA: [&str; 3] = ["kept", "written", "dropped"];
+pub const DATA: [&str; 4] = ["kept", "written", "dropped", "repeat"];
 pub const FIGURES: [&str; 3] = ["nothing", "over", "gap"];
 
 fn name<'a>(names: &[&'a str], number: u8) -> &'a str {

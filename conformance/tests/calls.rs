@@ -22,6 +22,8 @@ const FIXED_SEEDS: [u64; 2] = [1479, 65_012];
 struct Driver<'a> {
     choices: Choices,
     both: Both,
+    /// The last right frame that was heard.
+    heard: Vec<u8>,
     coverage: &'a mut Coverage,
 }
 
@@ -63,6 +65,11 @@ impl Driver<'_> {
             }
             Action::Frame => {
                 let octets = choices.frame(state).octets(&mut choices.random);
+                self.heard.clone_from(&octets);
+                choices.hear(octets)
+            }
+            Action::Again => {
+                let octets = choices.again(state, &self.heard);
                 choices.hear(octets)
             }
             Action::Spoiled => {
@@ -152,6 +159,7 @@ fn run(seed: u64, steps: u64, coverage: &mut Coverage) {
     let mut driver = Driver {
         both: Both::new(seed, &mut random),
         choices: Choices::new(random),
+        heard: Vec::new(),
         coverage,
     };
     for _ in 0..steps {

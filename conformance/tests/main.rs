@@ -8,6 +8,7 @@ mod calls;
 mod case;
 mod example;
 mod paper;
+mod repeats;
 mod rings;
 mod rules;
 mod ticks;

@@ -11,7 +11,7 @@ use flnet_conformance::engine::Engine;
 use flnet_conformance::frames::Frame;
 use flnet_conformance::model::frame::{at, Code};
 use flnet_conformance::model::{waits, Areas, Model, Part, Settings, MEMORY, OUTPUT};
-use flnet_conformance::names::{DROPPED, KEPT, WRITTEN};
+use flnet_conformance::names::{DROPPED, KEPT, REPEAT, WRITTEN};
 use flnet_conformance::random::Random;
 use std::hint::black_box;
 use std::time::{Duration, Instant};
@@ -298,14 +298,30 @@ fn hear_token<E: Engine + Default>() -> impl FnMut() -> f64 {
     hear(station, frames, WRITTEN)
 }
 
-/// Blocks 1 to 16 of a turn of 17.
-fn hear_block<E: Engine + Default>() -> impl FnMut() -> f64 {
+/// A station that hears another one, with both areas, and the first so many blocks of that one's
+/// turn of 17.
+fn hearer<E: Engine + Default>(blocks: u8) -> (Host<E>, Vec<Vec<u8>>) {
     let other = settings(2, Areas::new(Part::new(0, 512), Part::new(0, 8192)));
     let own = settings(1, Areas::default());
-    let frames = (1..=16)
+    let frames = (1..=blocks)
         .map(|block| octets(Code::Cyclic, &other, 1, block))
         .collect();
-    hear(Host::<E>::participant(own, &[other]), frames, KEPT)
+    (Host::participant(own, &[other]), frames)
+}
+
+/// Blocks 1 to 16 of a turn of 17.
+fn hear_block<E: Engine + Default>() -> impl FnMut() -> f64 {
+    let (station, frames) = hearer::<E>(16);
+    hear(station, frames, KEPT)
+}
+
+/// Block 2 of such a turn, once more each time.
+fn hear_repeat<E: Engine + Default>() -> impl FnMut() -> f64 {
+    let (mut station, mut frames) = hearer::<E>(2);
+    for frame in &frames {
+        station.hear(frame);
+    }
+    hear(station, frames.split_off(1), REPEAT)
 }
 
 /// A turn of 8 blocks, sent over and over: copying the areas at the first block is in it, hearing
@@ -543,6 +559,12 @@ fn main() {
         NANOSECOND,
         hear_block::<Station>(),
         hear_block::<Called>(),
+    );
+    line(
+        "hear a block once more, 1024 octets",
+        NANOSECOND,
+        hear_repeat::<Station>(),
+        hear_repeat::<Called>(),
     );
     line(
         "ask for a block, 1024 octets",

@@ -3,7 +3,7 @@
 use super::Choices;
 use crate::boundary::Station;
 use crate::frames::Frame;
-use crate::model::frame::Code;
+use crate::model::frame::{at, Code, HEADER};
 use crate::model::{Areas, Part};
 use crate::names::*;
 
@@ -52,6 +52,30 @@ impl Choices {
             frame.spoil(&mut self.random, state.core.own().number);
         }
         frame
+    }
+
+    /// A frame heard once more: as it was, with the token for somebody else or without it, or with
+    /// one bit of its data changed.
+    pub fn again(&mut self, state: &Station, heard: &[u8]) -> Vec<u8> {
+        let mut octets = heard.to_vec();
+        if octets.len() <= HEADER {
+            return octets;
+        }
+        let data = octets.len().min(1024 + HEADER) - HEADER;
+        match self.random.below(10) {
+            0 => {
+                let back = self.random.pick(&[1, 2, data]);
+                let at = octets.len() - back;
+                octets[at] ^= 1 << self.random.below(8);
+            }
+            1..=5 => {
+                let code = self.random.pick(&[Code::Token, Code::Token, Code::Cyclic]);
+                octets[at::TCD..at::TCD + 2].copy_from_slice(&(code as u16).to_be_bytes());
+                octets[at::DNA] = self.destination(state);
+            }
+            _ => {}
+        }
+        octets
     }
 
     /// Who sends: the one in view, another listed one, or anybody else.

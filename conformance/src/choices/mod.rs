@@ -17,6 +17,7 @@ use due::{is_due, until_next, watch};
 pub enum Action {
     Noise,
     Frame,
+    Again,
     Spoiled,
     Ask,
     Ticks,
@@ -27,9 +28,10 @@ pub enum Action {
     LongGap,
 }
 
-const ACTIONS: [Action; 10] = [
+const ACTIONS: [Action; 11] = [
     Action::Noise,
     Action::Frame,
+    Action::Again,
     Action::Spoiled,
     Action::Ask,
     Action::Ticks,
@@ -42,12 +44,12 @@ const ACTIONS: [Action; 10] = [
 
 /// Weights of the actions in each phase. A participant is seldom stopped, so that much happens to
 /// it.
-const WEIGHTS: [[usize; 10]; 5] = [
-    [300, 1500, 4000, 1200, 600, 1200, 300, 50, 200, 0],
-    [200, 2500, 4000, 2500, 900, 400, 250, 50, 200, 0],
-    [100, 4000, 4000, 1500, 1000, 300, 200, 50, 150, 0],
-    [100, 5000, 1000, 2000, 700, 300, 80, 50, 100, 0],
-    [200, 5000, 2500, 2500, 1500, 100, 20, 300, 400, 1],
+const WEIGHTS: [[usize; 11]; 5] = [
+    [300, 1500, 50, 4000, 1200, 600, 1200, 300, 50, 200, 0],
+    [200, 2500, 50, 4800, 2500, 900, 400, 250, 50, 200, 0],
+    [100, 4000, 50, 4000, 1500, 1000, 300, 200, 50, 150, 0],
+    [100, 5000, 50, 1000, 2000, 700, 300, 80, 50, 100, 0],
+    [200, 5000, 2000, 2500, 2500, 1500, 100, 20, 300, 400, 1],
 ];
 
 /// Numbers of which both ends, and pairs around the borders of a machine word, come up often.

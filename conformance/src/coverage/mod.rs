@@ -9,9 +9,9 @@ pub use step::Step;
 use step::NOTED;
 
 const CALLS: [&str; 5] = ["start", "stop", "tick", "hear", "ask"];
-/// Kinds of answers: off, done, frame, the refusals by number after it, and from `CYCLIC` on three
+/// Kinds of answers: off, done, frame, the refusals by number after it, and from `CYCLIC` on four
 /// data outcomes for each of the five token outcomes.
-const KINDS: usize = CYCLIC + 15;
+const KINDS: usize = CYCLIC + 20;
 const FRAME: usize = 2;
 const CYCLIC: usize = FRAME + 16;
 
@@ -42,7 +42,7 @@ fn kind(answer: &Answer) -> usize {
         WORD_DONE => 1,
         WORD_FRAME => FRAME,
         WORD_REFUSED => FRAME + usize::from(answer.refusal),
-        _ => CYCLIC + 3 * usize::from(answer.token) + usize::from(answer.data),
+        _ => CYCLIC + DATA.len() * usize::from(answer.token) + usize::from(answer.data),
     }
 }
 
@@ -53,8 +53,8 @@ fn kind_name(kind: usize) -> String {
         FRAME => "frame".into(),
         CYCLIC.. => format!(
             "{}, {}",
-            TOKENS[(kind - CYCLIC) / 3],
-            DATA[(kind - CYCLIC) % 3]
+            TOKENS[(kind - CYCLIC) / DATA.len()],
+            DATA[(kind - CYCLIC) % DATA.len()]
         ),
         _ => format!("refused {}", kind - FRAME),
     }

@@ -60,6 +60,18 @@ impl Step<'_> {
         self.answer.word == WORD_CYCLIC && self.answer.data == WRITTEN
     }
 
+    /// A cyclic frame with the source and the number of the last block still gathered, with this
+    /// data outcome.
+    fn latest_again(&self, data: u8) -> bool {
+        let core = &self.before.core;
+        self.answer.word == WORD_CYCLIC
+            && self.answer.data == data
+            && core.blocks() > 0
+            && self.heard().is_some_and(|(source, octets)| {
+                source == core.source() && octets[at::CBN] == core.blocks()
+            })
+    }
+
     fn strikes(&self) -> bool {
         let view = self.before.core.view();
         self.stays()
@@ -114,7 +126,7 @@ impl Step<'_> {
 
 pub type Noted = (&'static str, fn(&Step) -> bool);
 
-pub const NOTED: [Noted; 42] = [
+pub const NOTED: [Noted; 48] = [
     ("trigger sent", |s| s.goes(LISTENING, STARTUP) && s.asks()),
     ("trigger heard in listening", |s| {
         s.goes(LISTENING, STARTUP) && !s.asks()
@@ -221,6 +233,22 @@ pub const NOTED: [Noted; 42] = [
     }),
     ("block 1 in the midst of a turn", |s| {
         s.before.core.blocks() > 0 && s.after.core.blocks() == 1
+    }),
+    ("block 1 repeated", |s| {
+        s.latest_again(REPEAT) && s.before.core.blocks() == 1
+    }),
+    ("later block repeated", |s| {
+        s.latest_again(REPEAT) && s.before.core.blocks() > 1
+    }),
+    ("16th block repeated", |s| {
+        s.latest_again(REPEAT) && s.before.core.blocks() == 16
+    }),
+    ("misses cleared by a repeat", |s| {
+        s.latest_again(REPEAT) && s.before.list.entry(s.before.core.source()).misses > 0
+    }),
+    ("block 1 again with other octets", |s| s.latest_again(KEPT)),
+    ("later block again with other octets", |s| {
+        s.latest_again(DROPPED) && s.before.core.blocks() > 1
     }),
     ("gathered dropped by a cyclic frame", |s| {
         s.drops_gathered() && s.answer.word == WORD_CYCLIC && s.answer.data == DROPPED

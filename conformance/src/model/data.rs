@@ -9,6 +9,8 @@ pub enum Data {
     Kept,
     Written,
     Dropped,
+    /// The last block still gathered, heard once more.
+    Repeat,
 }
 
 /// What has been put together: blocks 1 to `blocks` of the source's turn.
@@ -38,6 +40,16 @@ impl Gathering {
         }
     }
 
+    /// Whether this is the last block still gathered, with the octets that the assembly buffer, as it
+    /// is lent now, has in its place.
+    fn is_repeat(&self, header: &Header, data: &[u8], assembly: &[u8]) -> bool {
+        let heard = Gathered {
+            source: header.source,
+            blocks: header.block,
+        };
+        self.0 == Some(heard) && assembly[header.areas.block(header.block)] == *data
+    }
+
     pub fn gather(
         &mut self,
         header: &Header,
@@ -46,9 +58,13 @@ impl Gathering {
         memory: &mut [u8],
         assembly: &mut [u8],
     ) -> Data {
+        let as_listed = header.areas == *listed;
+        if as_listed && self.is_repeat(header, data, assembly) {
+            return Data::Repeat;
+        }
         let next = self.next_of(header.source);
         self.0 = None;
-        if header.areas != *listed || header.block != 1 && header.block != next {
+        if !as_listed || header.block != 1 && header.block != next {
             return Data::Dropped;
         }
         assembly[listed.block(header.block)].copy_from_slice(data);

@@ -9,7 +9,7 @@ use Rattle.station.specs.declared.Switched.the-variants as switched
 use Rattle.station.specs.declared.Ticked.the-variants as ticked
 use Rattle.frame.specs.declared.Refusal.{Refusal}
 use Rattle.station.specs.declared.Data.{Data}
-use Rattle.station.specs.declared.Data.the-variants.{Kept, Written, Dropped}
+use Rattle.station.specs.declared.Data.the-variants.{Kept, Written, Dropped, Repeat}
 use Rattle.station.specs.declared.Token.{Token}
 use Rattle.station.specs.declared.Switched.{Switched}
 use Rattle.station.specs.declared.Ticked.{Ticked}
@@ -40,12 +40,13 @@ refusal-kept Total = refl
 refusal-kept Number = refl
 
 abbrev dataAt : ℕ → Data
-dataAt number = cond (eqb number 0) Kept (cond (eqb number 1) Written Dropped)
+dataAt number = cond (eqb number 0) Kept (cond (eqb number 1) Written (cond (eqb number 2) Dropped Repeat))
 
 data-kept : (outcome : Data) → dataAt (dataNumber outcome) ≡ outcome
 data-kept Kept = refl
 data-kept Written = refl
 data-kept Dropped = refl
+data-kept Repeat = refl
 
 abbrev tokenAt : ℕ → Data → Token
 tokenAt number outcome =

@@ -70,6 +70,7 @@ fn data_number(outcome: Data) -> u8
         Data::Kept => 0,
         Data::Written => 1,
         Data::Dropped => 2,
+        Data::Repeat => 3,
     }
 }
 

@@ -4,7 +4,7 @@ use mathlib.Core.List.{append-assoc, append-nil}
 use native.Mathlib.Numerals.{add-one}
 use native.Mathlib.Nat.{zero-add, add-zero}
 use lib.ListN.{take-append-drop, length-append, length-take, length-drop, drop-of-length-le}
-use lib.Seq.{take-append-seam, drop-append-add, drop-drop, drop-cons, append-snoc, set-at, set-split, take-all, take-at, take-add, length-take-le}
+use lib.Seq.{take-append-seam, drop-append-seam, drop-append-add, drop-drop, drop-cons, append-snoc, set-at, set-split, take-all, take-at, take-add, length-take-le}
 use Rattle.copying.specs.Pasted.{pasted}
 
 pub paste-front : (d s : List ℕ) → pasted d 0 s ≡ s ++ drop (length s) d
@@ -13,6 +13,14 @@ paste-front d s = ap (λ (k : ℕ). s ++ drop k d) (zero-add (length s))
 -- and there it is read
 pub front-read : (d s : List ℕ) (n : ℕ) → n ≡ length s → take n (pasted d 0 s) ≡ s
 front-read d s n e = ap (take n) (paste-front d s) ∙ take-at s (drop (length s) d) n (sym e)
+
+-- at any place too
+pub part-read : (d s : List ℕ) (at : ℕ) → at ≤ length d → take (length s) (drop at (pasted d at s)) ≡ s
+part-read d s at h =
+    let front : length (take at d) ≡ at = length-take-le at d h in
+    ap (λ (k : ℕ). take (length s) (drop k (pasted d at s))) (sym front)
+    ∙ ap (take (length s)) (drop-append-seam (take at d) (s ++ drop (at + length s) d))
+    ∙ take-append-seam s (drop (at + length s) d)
 
 -- one list in front, and another right behind it
 pub paste-both : (d s t : List ℕ) → pasted (pasted d 0 s) (length s) t ≡ (s ++ t) ++ drop (length s + length t) d

@@ -8,7 +8,9 @@ use station::Gathering;
 ghost use Rattle.laws.specs.Usual.{_≡_, true, _&&_, _+_, _≤_, length, eqb};
 ghost use Rattle.area.specs.Areas.{inRange, memoryOctets};
 ghost use Rattle.block.specs.Blocks.{startOf};
-ghost use Rattle.station.specs.Rules.Data.{turnWritten, sameAreas, isNext, storing, gatheredFrom};
+ghost use Rattle.station.specs.Rules.Data.{turnWritten, sameAreas, isRepeat, isNext, storing, gatheredFrom};
+ghost use Rattle.station.specs.Rules.State.{nothing};
+ghost use Rattle.station.specs.declared.Data.the-variants.{Dropped};
 
 // What gathering one block leaves of the turn, and what became of the block.
 pub struct Stored {
@@ -26,6 +28,20 @@ fn same_areas(a: Areas, b: Areas) -> bool
     ensures { λ r. ⌜ r ≡ sameAreas a b ⌝ }
 {
     same_part(a.one, b.one) & same_part(a.two, b.two)
+}
+
+// "the same source, number, length and octets as the last one still gathered". The octets are compared where they stand, and only for such a number.
+fn is_repeat(gathering: Gathering, frame: Fields, octets: &[u8], assembly: &[u8]) -> bool
+    requires { ⌜ startOf (frame .block) + length (now octets) ≤ memoryOctets ⌝ }
+    requires { ⌜ length (now assembly) ≡ memoryOctets ⌝ }
+    ensures { λ r. ⌜ r ≡ isRepeat gathering frame (now (octets .entry)) (now (assembly .entry)) ⌝ }
+{
+    if (gathering.source == frame.source) & (gathering.blocks == frame.block) {
+        let start = block::block_start(frame.block);
+        let end = start + octets.len();
+        return comparing::same(octets, &assembly[start..end]);
+    }
+    false
 }
 
 // "Block 1 starts afresh. A block that isn't the next of the same source drops what was gathered".
@@ -78,7 +94,19 @@ fn finish(listed: Areas, frame: Fields, assembly: &[u8], memory: &mut [u8]) -> S
     }
 }
 
-// Stores the block where it follows what was gathered, else drops both.
+// "drops what was gathered, and itself"
+fn drop_both() -> Stored
+    ensures { λ r. ⌜ r .gathering ≡ nothing ⌝ }
+    ensures { λ r. ⌜ r .outcome ≡ Dropped ⌝ }
+{
+    let gathering = phases::nothing();
+    Stored {
+        gathering,
+        outcome: Data::Dropped,
+    }
+}
+
+// Passes a repeat over, stores the block where it follows what was gathered, else drops both.
 pub fn gather(
     gathering: Gathering,
     listed: Areas,
@@ -97,13 +125,18 @@ pub fn gather(
     ensures { λ _. ⌜ now (memory .exit) ≡ gatheredFrom gathering listed frame (now (octets .entry)) (now (assembly .entry)) (now (memory .entry)) .memory ⌝ }
 {
     let areas = frame.areas;
-    if same_areas(areas, listed) & is_next(gathering, frame) {
+    if !same_areas(areas, listed) {
+        return drop_both();
+    }
+    if is_repeat(gathering, frame, octets, assembly) {
+        return Stored {
+            gathering,
+            outcome: Data::Repeat,
+        };
+    }
+    if is_next(gathering, frame) {
         copying::copy_into(octets, assembly, block::block_start(frame.block));
         return finish(listed, frame, assembly, memory);
     }
-    let none = phases::nothing();
-    Stored {
-        gathering: none,
-        outcome: Data::Dropped,
-    }
+    drop_both()
 }

@@ -37,6 +37,7 @@ use Rattle.panel.specs.Texts.{shown-text}
 use Rattle.panel.specs.declared.Figure.the-variants.{Nothing}
 use Rattle.frame_reading.specs.Reading.{readOf, isStation, dataSize}
 use Rattle.frame_reading.specs.Reading as reading
+use Rattle.frame_reading.specs.Reading as reading
 use Rattle.ticking_quiet.specs.Many.{afterTicks, ticksOf}
 use Rattle.ticking_quiet.specs.ManyLaws.{ticks-answer, ticks-called}
 use Rattle.ticking_quiet.specs.Quiet as quiet
@@ -80,6 +81,8 @@ use Rattle.station.specs.Rules.Starting.{requestFallen}
 use Rattle.station.specs.Rules.State.{never, isOff, isParticipating, stopped}
 use Rattle.station.specs.Rules.Ticking.{tickOf, watchEnds}
 use Rattle.station.specs.Rules.Waits.{countsAs}
+use Rattle.station.specs.Memory.KeptRepeated.{PassedOver, Again, isLatest, repeat-passed, kept-repeated}
+use Rattle.station.specs.Memory.RepeatSaid.{Repeats, repeat-said, repeat-long}
 use Rattle.station.specs.Memory.TurnWhole.{Lending, turn-whole}
 use Rattle.station.specs.Memory.TurnWritten.{Turned, turn-written}
 use Rattle.station.specs.declared.Asked.the-variants.{Octets}
@@ -88,7 +91,8 @@ use Rattle.station.specs.Types.{Areas, Part, Fields, Refusal, Frame, Refused}
 use Rattle.station.specs.declared.Phase.{Phase}
 use Rattle.station.specs.declared.Phase.the-variants.{Off, Listening, Startup, Joining, Participating}
 use Rattle.station.specs.declared.Station.{Station}
-use Rattle.station.specs.declared.Data.the-variants.{Written}
+use Rattle.station.specs.declared.Data.the-variants.{Written, Repeat}
+use Rattle.station.specs.declared.Data.the-variants as outcomes
 use Rattle.station.specs.declared.Token.{Token}
 use Rattle.settle_views.specs.Views.{stationsOf}
 use Rattle.settle_views.specs.declared.Ring.{Ring}
@@ -312,8 +316,8 @@ pub written : (station : Station) → Reachable station → (octets memory assem
     (hearOf station octets memory assembly .memory)
 written = turn-written
 
--- which is the data of the latest cyclic frames accepted, blocks 1 to the last of that source, where each hearing is lent the assembly buffer as
--- the one before left it: "half a turn" is never seen.
+-- which is the data of the latest cyclic frames accepted that are no repeats, blocks 1 to the last of that source, where each hearing is lent the
+-- assembly buffer as the one before left it: "half a turn" is never seen. Which turn of the source a block is of, no frame says.
 pub whole-turn : {frames : List (List ℕ)} (station : Station) (assembly : List ℕ) → Lending frames station assembly
     → (octets memory : List ℕ) (token : Token)
     → hearOf station octets memory assembly .answer ≡ heard.Cyclic token → dataOf token ≡ Written
@@ -321,6 +325,38 @@ pub whole-turn : {frames : List (List ℕ)} (station : Station) (assembly : List
     × Parts (frame .source) (octets ∷ frames) (frame .block)
     (take (octetsOf (entryOf (station .members) (frame .source) .areas)) (hearOf station octets memory assembly .assembly))
 whole-turn = turn-whole
+
+-- A BLOCK HEARD TWICE: "a block with the listed areas and the same source, number, length and octets as the last one still gathered (in the
+-- assembly buffer as now lent) shall be passed over, and the data outcome is 'repeat'" (paper 02, E4). In any state, a cyclic frame's data outcome
+-- is "repeat" exactly where a participant hears such a block;
+pub repeats : (station : Station) (octets memory assembly : List ℕ) (token : Token) → hearOf station octets memory assembly .answer ≡ heard.Cyclic token
+    → (dataOf token ≡ Repeat → (frame : Fields) × Repeats station octets assembly frame)
+    × ((frame : Fields) → Repeats station octets assembly frame → dataOf token ≡ Repeat)
+repeats = repeat-said
+
+-- there what was gathered, the memory and the assembly buffer stay as they are, and the frame does all else that an accepted cyclic frame does: "a
+-- repeat of a token frame acts on the view by the old rule";
+pub passed-over : (station : Station) (octets memory assembly : List ℕ) (token : Token) → hearOf station octets memory assembly .answer ≡ heard.Cyclic token
+    → dataOf token ≡ Repeat → PassedOver station octets memory assembly (hearOf station octets memory assembly)
+passed-over = repeat-passed
+
+-- in a state that calls can leave it is never a turn's last block, and has 1024 octets, as the one that was gathered;
+pub repeat-length : (station : Station) → Reachable station → (octets memory assembly : List ℕ) (token : Token)
+    → hearOf station octets memory assembly .answer ≡ heard.Cyclic token → dataOf token ≡ Repeat
+    → (frame : Fields) × Repeats station octets assembly frame × (frame .block < frame .blocks) × (length (reading.dataOf octets frame) ≡ 1024)
+repeat-length = repeat-long
+
+-- a frame that was kept, heard once more on what the first hearing left and with any common memory, is passed over so;
+pub heard-twice : (station : Station) (octets memory assembly : List ℕ) (token : Token) → hearOf station octets memory assembly .answer ≡ heard.Cyclic token
+    → dataOf token ≡ outcomes.Kept → (common : List ℕ) → length common ≡ 17408
+    → Again (hearOf station octets memory assembly .station) octets common (hearOf station octets memory assembly .assembly)
+heard-twice station octets memory assembly token e kept = kept-repeated station octets memory assembly token e (ap isLatest kept)
+
+-- and so is each further copy.
+pub heard-again : (station : Station) (octets memory assembly : List ℕ) (token : Token) → hearOf station octets memory assembly .answer ≡ heard.Cyclic token
+    → dataOf token ≡ Repeat → (common : List ℕ) → length common ≡ 17408
+    → Again (hearOf station octets memory assembly .station) octets common (hearOf station octets memory assembly .assembly)
+heard-again station octets memory assembly token e repeat = kept-repeated station octets memory assembly token e (ap isLatest repeat)
 
 -- "the frames it writes read back to the same fields": what an asking writes reads as the frame that is due,
 pub frames-asked : (station : Station) → Reachable station → (memory turn output : List ℕ) (count : ℕ)

@@ -3,7 +3,7 @@ use Rattle.laws.specs.Usual.{List, [], _∷_, ℕ}
 use Rattle.replay_reply_parts.specs.Lines.{ended, spaced}
 use Rattle.station.specs.Rules.Answers.{dataOf}
 use Rattle.station.specs.declared.Data.{Data}
-use Rattle.station.specs.declared.Data.the-variants.{Kept, Written, Dropped}
+use Rattle.station.specs.declared.Data.the-variants.{Kept, Written, Dropped, Repeat}
 use Rattle.station.specs.declared.Token.{Token}
 use Rattle.station.specs.declared.Token.the-variants.{None, PassedOn, OursNow, RivalPassedOver, RivalWon}
 
@@ -33,11 +33,12 @@ tokenWord (RivalPassedOver outcome) =
     ∷ []
 tokenWord (RivalWon outcome) = 0x72 ∷ 0x69 ∷ 0x76 ∷ 0x61 ∷ 0x6c ∷ 0x2d ∷ 0x77 ∷ 0x6f ∷ 0x6e ∷ []
 
--- "kept", "written", "dropped"
+-- "kept", "written", "dropped"; and "repeat" (paper 02, E4)
 abbrev pub dataWord : Data → List ℕ
 dataWord Kept = 0x6b ∷ 0x65 ∷ 0x70 ∷ 0x74 ∷ []
 dataWord Written = 0x77 ∷ 0x72 ∷ 0x69 ∷ 0x74 ∷ 0x74 ∷ 0x65 ∷ 0x6e ∷ []
 dataWord Dropped = 0x64 ∷ 0x72 ∷ 0x6f ∷ 0x70 ∷ 0x70 ∷ 0x65 ∷ 0x64 ∷ []
+dataWord Repeat = 0x72 ∷ 0x65 ∷ 0x70 ∷ 0x65 ∷ 0x61 ∷ 0x74 ∷ []
 
 -- of a cyclic frame what became of the token, then what became of the data
 abbrev pub outcomeText : Token → List ℕ

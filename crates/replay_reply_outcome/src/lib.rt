@@ -17,6 +17,7 @@ fn put_data(data: Data, output: &mut [u8], at: usize) -> usize
         Data::Kept => put_word(b"kept", output, at),
         Data::Written => put_word(b"written", output, at),
         Data::Dropped => put_word(b"dropped", output, at),
+        Data::Repeat => put_word(b"repeat", output, at),
     }
 }
 

@@ -2,11 +2,12 @@
 pub mod Types
 -- The rules of the paper.
 pub mod Rules
--- The outcomes of each call, which the theorems go by.
-pub mod Outcomes
--- The rules worked out for three stations, and how long the watch runs; what a refusal leaves.
+-- The rules worked out for three stations, how long the watch runs, and a block heard twice.
 pub mod Acts
 pub mod Watches
+pub mod Copies
+-- The outcomes of each call, which the theorems go by; what a refusal leaves.
+pub mod Outcomes
 pub mod RefusedLeft
 -- What holds in every state that calls can leave.
 pub mod States

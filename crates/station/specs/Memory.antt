@@ -7,3 +7,5 @@ pub mod TurnJoined
 pub mod Gathers
 pub mod GathersHeard
 pub mod TurnWhole
+pub mod RepeatSaid
+pub mod KeptRepeated

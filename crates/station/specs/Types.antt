@@ -19,7 +19,7 @@ pub use Rattle.station.specs.declared.Phase.the-variants.{Off, Listening
 pub use Rattle.station.specs.declared.Gathering.{Gathering}
 pub use Rattle.station.specs.declared.Station.{Station}
 pub use Rattle.station.specs.declared.Data.{Data}
-pub use Rattle.station.specs.declared.Data.the-variants.{Kept, Written, Dropped}
+pub use Rattle.station.specs.declared.Data.the-variants.{Kept, Written, Dropped, Repeat}
 pub use Rattle.station.specs.declared.Token.{Token}
 pub use Rattle.station.specs.declared.Switched.{Switched}
 pub use Rattle.station.specs.declared.Ticked.{Ticked}

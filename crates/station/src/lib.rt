@@ -65,6 +65,7 @@ pub enum Data {
     Kept,
     Written,
     Dropped,
+    Repeat,
 }
 
 // "has what became of the token (none, passed on, ours now": each case carries what became of the data (paper 01, list of forms).

@@ -1,10 +1,10 @@
 -- `hearing_gathering::gather` meets its contract.
 use Rattle.laws.specs.Usual.{_≡_, refl, sym, ap, _∙_, Bool, true, false, cond, _&&_, List, ℕ, arith, eqb, needs}
-use borrow.Author.Tests.{eqb-true}
+use borrow.Author.Tests.{eqb-true, not-false}
 use Rattle.area.specs.Areas.{inRange}
 use Rattle.copying.specs.Pasted.{pasted}
 use Rattle.laws.specs.Tests.{first, second}
-use Rattle.station.specs.Rules.Data.{Gathered, sameAreas, isNext, turnWritten, storing}
+use Rattle.station.specs.Rules.Data.{Gathered, sameAreas, turnWritten, storing}
 use Rattle.station.specs.Rules.State.{nothing}
 use Rattle.station.specs.Types.{Areas, Fields}
 use Rattle.station.specs.declared.Data.the-variants.{Kept, Written}
@@ -38,6 +38,26 @@ same-assembly listed frame assembly memory = by (eqb (frame .block) (frame .bloc
 same-areas-requires : tie.Need-same-areas-requires
 same-areas-requires c κs = tt
 
+drop-both-requires : tie.Need-drop-both-requires
+drop-both-requires c κs = tt
+
+returns : tie.Need-returns
+returns c =
+    let other = rw (c .before .before .same-areas .ensures) at (c .before .if1 .taken) in
+    (c .drop-both .ensures .0 ∙ rw other, (c .drop-both .ensures .1 ∙ rw other, (rw other, rw other)))
+
+is-repeat-requires : tie.Need-is-repeat-requires
+is-repeat-requires c κs = search needs
+
+same-length : tie.Need-same-length
+same-length c = search needs
+
+returns-2 : tie.Need-returns-2
+returns-2 c =
+    let alike = rw (c .before .before .before .before .same-areas .ensures) at (c .before .before .before .if1 .left) in
+    let again = rw (c .before .is-repeat .ensures) at (c .if2 .taken) in
+    (rw (alike, again), (rw (alike, again), (rw (alike, again), rw (alike, again))))
+
 is-next-requires : tie.Need-is-next-requires
 is-next-requires c κs = tt
 
@@ -49,44 +69,57 @@ copy-into-requires c κs = search needs
 
 finish-requires : tie.Need-finish-requires
 finish-requires c κs =
-    let a = c .before .before .before .before .before .before .before .before .before .before .before .before .before .before .args in
-    let held = rw (c .before .before .before .before .before .before .before .before .before .same-areas .ensures, c .before .before .before .before .before .before .before .before .is-next .ensures) at (c .before .before .before .before .before .before .before .if1 .taken) in
-    let same = first (sameAreas (a .frame .areas) (a .listed)) (isNext (a .gathering) (a .frame)) held in
-    (same-range (a .frame .areas) (a .listed) same (c .before .before .before .before .before .before .before .before .before .before .before .before .before .before .pre .0), (omega (arith, c .before .before .before .before .copy-into .kept, c .before .before .before .before .before .before .before .before .before .before .before .before .before .before .pre), omega (arith, c .before .before .before .before .before .before .before .before .before .before .before .before .before .before .pre)))
-
-same-length : tie.Need-same-length
-same-length c = search needs
+    let a = c .before .before .before .before .before .before .before .before .before .before .before .before .before .before .before .before .before .before .args in
+    let pre = c .before .before .before .before .before .before .before .before .before .before .before .before .before .before .before .before .before .before .pre in
+    let alike = not-false (sameAreas (a .frame .areas) (a .listed)) (rw (c .before .before .before .before .before .before .before .before .before .before .before .before .before .same-areas .ensures) at (c .before .before .before .before .before .before .before .before .before .before .before .before .if1 .left)) in
+    (same-range (a .frame .areas) (a .listed) alike (pre .0), (omega (arith, c .before .before .before .before .copy-into .kept, pre), omega (arith, pre)))
 
 same-length-2 : tie.Need-same-length-2
 same-length-2 c = search needs
 
-returns : tie.Need-returns
-returns c =
-    let a = c .before .before .before .before .before .before .before .before .before .before .before .before .before .before .before .before .before .args in
-    let held = rw (c .before .before .before .before .before .before .before .before .before .before .before .before .same-areas .ensures, c .before .before .before .before .before .before .before .before .before .before .before .is-next .ensures) at (c .before .before .before .before .before .before .before .before .before .before .if1 .taken) in
+same-length-3 : tie.Need-same-length-3
+same-length-3 c = search needs
+
+returns-3 : tie.Need-returns-3
+returns-3 c =
+    let a = c .before .before .before .before .before .before .before .before .before .before .before .before .before .before .before .before .before .before .before .before .before .args in
+    let alike = rw (c .before .before .before .before .before .before .before .before .before .before .before .before .before .before .before .before .same-areas .ensures) at (c .before .before .before .before .before .before .before .before .before .before .before .before .before .before .before .if1 .left) in
+    let new = rw (c .before .before .before .before .before .before .before .before .before .before .before .before .before .is-repeat .ensures) at (c .before .before .before .before .before .before .before .before .before .before .before .before .if2 .left) in
+    let next = rw (c .before .before .before .before .before .before .before .before .before .before .before .is-next .ensures) at (c .before .before .before .before .before .before .before .before .before .before .if3 .taken) in
     let stored = c .before .before .before .before .before .before .before .copy-into .ensures ∙ ap (λ (at : ℕ). pasted (a .assembly .now) at (a .octets .now)) (c .before .before .before .before .before .before .before .before .block-start .ensures) in
     let ended = c .before .before .finish .ensures in
-    (ended .0 ∙ rw (stored, held), (ended .1 .0 ∙ rw (stored, held), (stored ∙ rw held (sym (same-assembly (a .listed) (a .frame) _ (a .memory .now))), ended .1 .1 ∙ rw (stored, held))))
+    (ended .0 ∙ rw (alike, new, next, stored), (ended .1 .0 ∙ rw (alike, new, next, stored), (stored ∙ rw (alike, new, next) (sym (same-assembly (a .listed) (a .frame) _ (a .memory .now))), ended .1 .1 ∙ rw (alike, new, next, stored))))
 
-nothing-requires : tie.Need-nothing-requires
-nothing-requires c κs = tt
+drop-both-requires-2 : tie.Need-drop-both-requires-2
+drop-both-requires-2 c κs = tt
 
-returns-2 : tie.Need-returns-2
-returns-2 c =
-    let held = rw (c .before .before .before .same-areas .ensures, c .before .before .is-next .ensures) at (c .before .if1 .left) in
-    (c .nothing .ensures ∙ rw held, (rw held, (rw held, rw held)))
+same-length-4 : tie.Need-same-length-4
+same-length-4 c = search needs
+
+returns-4 : tie.Need-returns-4
+returns-4 c =
+    let alike = rw (c .before .before .before .before .before .before .before .same-areas .ensures) at (c .before .before .before .before .before .before .if1 .left) in
+    let new = rw (c .before .before .before .before .is-repeat .ensures) at (c .before .before .before .if2 .left) in
+    let later = rw (c .before .before .is-next .ensures) at (c .before .if3 .left) in
+    (c .drop-both2 .ensures .0 ∙ rw (alike, new, later), (c .drop-both2 .ensures .1 ∙ rw (alike, new, later), (rw (alike, new, later), rw (alike, new, later))))
 
 pub gather-spec : {M : Type 1} → statement M
 gather-spec =
     tie.close
     (tie.spec
     same-areas-requires
+    drop-both-requires
+    returns
+    is-repeat-requires
+    same-length
+    returns-2
     is-next-requires
     block-start-requires
     copy-into-requires
     finish-requires
-    same-length
     same-length-2
-    returns
-    nothing-requires
-    returns-2)
+    same-length-3
+    returns-3
+    drop-both-requires-2
+    same-length-4
+    returns-4)

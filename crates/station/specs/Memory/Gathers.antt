@@ -5,19 +5,27 @@ use Rattle.block.specs.Blocks.{startOf}
 use Rattle.frame.specs.Codes.{isCyclic}
 use Rattle.frame_reading.specs.Reading as reading
 use Rattle.frame_reading.specs.Reading.{readHeaderOf, readBodyOf}
+use Rattle.station.specs.Rules.Answers.{dataOf}
 use Rattle.station.specs.Rules.Data.{without}
 use Rattle.station.specs.Rules.State.{nothing}
-use Rattle.station.specs.Types.{Fields, Frame, Gathering, Heard}
+use Rattle.station.specs.Types.{Fields, Frame, Gathering, Data, Kept, Written, Dropped, Repeat, Heard}
 use Rattle.station.specs.declared.Heard.the-variants as answers
 
--- a list of the cyclic frames that were accepted, the latest first, after one more hearing
+-- a list of the cyclic frames that were accepted and are no repeats, the latest first, after one more such frame
+abbrev withNew : Data → List ℕ → List (List ℕ) → List (List ℕ)
+withNew Kept octets heard = octets ∷ heard
+withNew Written octets heard = octets ∷ heard
+withNew Dropped octets heard = octets ∷ heard
+withNew Repeat octets heard = heard
+
+-- and after one more hearing
 abbrev pub acceptedAfter : Heard → List ℕ → List (List ℕ) → List (List ℕ)
 acceptedAfter answers.Off octets heard = heard
 acceptedAfter answers.Done octets heard = heard
-acceptedAfter (answers.Cyclic token) octets heard = octets ∷ heard
+acceptedAfter (answers.Cyclic token) octets heard = withNew (dataOf token) octets heard
 acceptedAfter (answers.Refused refusal) octets heard = heard
 
--- The latest cyclic frames accepted are blocks 1 to n of a source, in this order, and these are their data one behind the other.
+-- The latest cyclic frames accepted that are no repeats are blocks 1 to n of a source, in this order, and these are their data one behind the other.
 pub data Parts (source : ℕ) : List (List ℕ) → ℕ → List ℕ → Type 0 where
   none : {heard : List (List ℕ)} → Parts source heard 0 []
   more : {heard : List (List ℕ)} {n : ℕ} {part : List ℕ} → Parts source heard n part → (octets : List ℕ) (frame : Fields)

@@ -9,14 +9,15 @@ use Rattle.frame_reading.specs.Reading as reading
 use Rattle.frame_round_trip.specs.Shown.{block-is}
 use Rattle.station.specs.Rules.Data.{sameAreas, isNext}
 use Rattle.station.specs.Memory.Gathers.{acceptedAfter, Parts, more, Gathers, gathers-nothing, before-next, gathers-without}
-use Rattle.station.specs.Outcomes.HearCases.{FromMember, writes, keeps, drops, off, begins, joins, passes, reads, lists, ignores, awaits-outside, HearCases, refuses, turnsOff, gathers, heeds, whole-of, hear-cases}
+use Rattle.station.specs.Outcomes.HearCases.{FromMember, writes, keeps, repeats, drops, off, begins, joins, passes, reads, lists, ignores, awaits-outside, HearCases, refuses, turnsOff, gathers, heeds, whole-of, hear-cases}
 use Rattle.station.specs.Rules.Hearing.{Hearing, hearOf}
 use Rattle.station.specs.States.KeepsEntering.{same-octets}
 use Rattle.station.specs.States.Reachable.{Sound}
 use Rattle.station.specs.Rules.State.{isParticipating}
+use Rattle.station.specs.Memory.MemorySame.{data-outcome}
 use Rattle.station.specs.Memory.TurnJoined.{data-long, taken-through}
 use Rattle.station.specs.Memory.TurnWritten.{assembly-long}
-use Rattle.station.specs.Types.{Fields, Station}
+use Rattle.station.specs.Types.{Fields, Station, Kept, Repeat}
 
 module _ {heard : List (List ℕ)} (station : Station) (octets memory assembly : List ℕ) (ok : Sound station)
     (before : Gathers heard (station .gathering) assembly) where
@@ -69,9 +70,10 @@ module _ {heard : List (List ℕ)} (station : Station) (octets memory assembly :
   gathers-in : {result : Hearing} → HearCases station octets memory assembly result → Keeps result
   gathers-in (refuses refusal) = before
   gathers-in (turnsOff out) = gathers-nothing assembly
-  gathers-in (gathers frame {after} from (writes areas next last)) = gathers-nothing (after .assembly)
-  gathers-in (gathers frame from (keeps areas next last)) = kept-gathers frame from areas next last
-  gathers-in (gathers frame from drops) = gathers-nothing assembly
+  gathers-in (gathers frame {after} from (writes areas new next last)) = gathers-nothing (after .assembly)
+  gathers-in (gathers frame from (keeps areas new next last)) = rw (data-outcome station frame Kept) (kept-gathers frame from areas next last)
+  gathers-in (gathers frame from (repeats areas again)) = rw (data-outcome station frame Repeat) before
+  gathers-in (gathers frame from (drops why)) = gathers-nothing assembly
   gathers-in (heeds frame facts (off e)) = before
   gathers-in (heeds frame facts (begins e c)) = gathers-nothing assembly
   gathers-in (heeds frame facts (joins e c)) = gathers-nothing assembly

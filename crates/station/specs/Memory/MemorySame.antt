@@ -8,25 +8,27 @@ use Rattle.frame_reading.specs.Reading as reading
 use Rattle.frame_reading.specs.Reading.{readHeaderOf, readBodyOf}
 use Rattle.station.specs.Rules.Answers.{dataOf}
 use Rattle.station.specs.Rules.Data.{turnWritten, sameAreas, isNext}
-use Rattle.station.specs.Outcomes.HearCases.{writes, keeps, drops, EnterCases, off, begins, joins, passes, reads, lists, ignores, HearCases, refuses, turnsOff, gathers, heeds, hear-cases}
+use Rattle.station.specs.Outcomes.HearCases.{writes, keeps, repeats, drops, EnterCases, off, begins, joins, passes, reads, lists, ignores, HearCases, refuses, turnsOff, gathers, heeds, hear-cases}
 use Rattle.station.specs.Rules.Hearing.{Hearing, lentRight, hearOf}
 use Rattle.station.specs.Rules.State.{isParticipating}
 use Rattle.station.specs.Rules.Token.{viewHeard, takes, outcomeOf}
 use Rattle.station.specs.declared.Heard.the-variants as heard
-use Rattle.station.specs.Types.{Fields, Frame, Station, Data, Kept, Written, Dropped, Token, Heard}
+use Rattle.station.specs.Types.{Fields, Frame, Station, Data, Kept, Written, Dropped, Repeat, Token, Heard}
 use Rattle.station.specs.declared.Token.the-variants as tokens
 
--- the answer is that of a cyclic frame whose data outcome is "written"
+-- the data outcome "written"
 abbrev isWritten : Data → Bool
 isWritten Kept = false
 isWritten Written = true
 isWritten Dropped = false
+isWritten Repeat = false
 
-abbrev saysWritten : Heard → Bool
-saysWritten heard.Off = false
-saysWritten heard.Done = false
-saysWritten (heard.Cyclic token) = isWritten (dataOf token)
-saysWritten (heard.Refused refusal) = false
+-- the answer is that of a cyclic frame whose data outcome passes a test
+abbrev pub says : (Data → Bool) → Heard → Bool
+says test heard.Off = false
+says test heard.Done = false
+says test (heard.Cyclic token) = test (dataOf token)
+says test (heard.Refused refusal) = false
 
 -- what the octets say, and what is known of the sender, where a turn is written
 pub record Whole (station : Station) (octets memory assembly : List ℕ) (frame : Fields) : Type 0 where
@@ -45,7 +47,7 @@ pub record Whole (station : Station) (octets memory assembly : List ℕ) (frame 
   pub last : eqb (frame .block) (frame .blocks) ≡ true
 
 -- the token's outcome carries that of the data
-data-outcome : (station : Station) (frame : Fields) (outcome : Data) → dataOf (outcomeOf station frame outcome) ≡ outcome
+pub data-outcome : (station : Station) (frame : Fields) (outcome : Data) → dataOf (outcomeOf station frame outcome) ≡ outcome
 data-outcome station frame outcome =
     by (not (isToken (frame .code))) (takes (station .own .number) (station .view) (viewHeard (station .view) frame))
     (eqb (frame .source) (station .view)) (not (eqb (viewHeard (station .view) frame) (station .view)))
@@ -60,19 +62,24 @@ data-outcome station frame outcome =
     by false false false true = refl
     by false false false false = refl
 
--- such an answer says so
-says : {answer : Heard} (token : Token) → (answer ≡ heard.Cyclic token) × (dataOf token ≡ Written) → saysWritten answer ≡ true
-says token w = ap saysWritten (w .0) ∙ ap isWritten (w .1)
+-- and so what a participant answers to a cyclic frame says just that
+pub outcome-said : (test : Data → Bool) (station : Station) (frame : Fields) (outcome : Data) → says test (heard.Cyclic (outcomeOf station frame outcome)) ≡ test outcome
+outcome-said test station frame outcome = ap test (data-outcome station frame outcome)
 
--- a frame that a participant does not gather from writes nothing
-entered-unwritten : {station left : Station} {frame : Fields} {answer : Heard} → EnterCases station frame left answer → saysWritten answer ≡ false
-entered-unwritten (off e) = refl
-entered-unwritten (begins e c) = refl
-entered-unwritten (joins e c) = refl
-entered-unwritten (passes e c) = refl
-entered-unwritten (reads e c) = refl
-entered-unwritten (lists e c) = refl
-entered-unwritten (ignores e) = refl
+-- an answer of "written" says so
+written-said : {answer : Heard} (token : Token) → (answer ≡ heard.Cyclic token) × (dataOf token ≡ Written) → says isWritten answer ≡ true
+written-said token w = ap (says isWritten) (w .0) ∙ ap isWritten (w .1)
+
+-- of a frame that a participant does not gather from, the data are dropped
+pub entered-unsaid : (test : Data → Bool) → test Dropped ≡ false → {station left : Station} {frame : Fields} {answer : Heard} → EnterCases station frame left answer
+    → says test answer ≡ false
+entered-unsaid test d (off e) = refl
+entered-unsaid test d (begins e c) = refl
+entered-unsaid test d (joins e c) = d
+entered-unsaid test d (passes e c) = d
+entered-unsaid test d (reads e c) = d
+entered-unsaid test d (lists e c) = refl
+entered-unsaid test d (ignores e) = refl
 
 module _ (station : Station) (octets memory assembly : List ℕ) where
   -- the answer is a cyclic one whose data outcome is "written"
@@ -89,16 +96,17 @@ module _ (station : Station) (octets memory assembly : List ℕ) where
   same-in : {result : Hearing} → HearCases station octets memory assembly result → ((token : Token) → Writes result token → ⊥) → result .memory ≡ memory
   same-in (refuses refusal) none = refl
   same-in (turnsOff out) none = refl
-  same-in (gathers frame from (writes areas next last)) none =
+  same-in (gathers frame from (writes areas new next last)) none =
       absurd (none (outcomeOf station frame Written) (refl, data-outcome station frame Written))
-  same-in (gathers frame from (keeps areas next last)) none = refl
-  same-in (gathers frame from drops) none = refl
+  same-in (gathers frame from (keeps areas new next last)) none = refl
+  same-in (gathers frame from (repeats areas again)) none = refl
+  same-in (gathers frame from (drops why)) none = refl
   same-in (heeds frame facts entered) none = refl
 
   wrote-in : {result : Hearing} (token : Token) → HearCases station octets memory assembly result → Writes result token → Wrote result
-  wrote-in token (refuses refusal) w = absurd (false≢true (says token w))
-  wrote-in token (turnsOff out) w = absurd (false≢true (says token w))
-  wrote-in token (gathers frame from (writes areas next last)) w = (
+  wrote-in token (refuses refusal) w = absurd (false≢true (written-said token w))
+  wrote-in token (turnsOff out) w = absurd (false≢true (written-said token w))
+  wrote-in token (gathers frame from (writes areas new next last)) w = (
     frame,
     record {
       header = from .accepts .header;
@@ -114,9 +122,10 @@ module _ (station : Station) (octets memory assembly : List ℕ) where
     refl,
     refl,
   )
-  wrote-in token (gathers frame from (keeps areas next last)) w = absurd (false≢true (sym (ap isWritten (data-outcome station frame Kept)) ∙ says token w))
-  wrote-in token (gathers frame from drops) w = absurd (false≢true (sym (ap isWritten (data-outcome station frame Dropped)) ∙ says token w))
-  wrote-in token (heeds frame facts entered) w = absurd (false≢true (sym (entered-unwritten entered) ∙ says token w))
+  wrote-in token (gathers frame from (keeps areas new next last)) w = absurd (false≢true (sym (outcome-said isWritten station frame Kept) ∙ written-said token w))
+  wrote-in token (gathers frame from (repeats areas again)) w = absurd (false≢true (sym (outcome-said isWritten station frame Repeat) ∙ written-said token w))
+  wrote-in token (gathers frame from (drops why)) w = absurd (false≢true (sym (outcome-said isWritten station frame Dropped) ∙ written-said token w))
+  wrote-in token (heeds frame facts entered) w = absurd (false≢true (sym (entered-unsaid isWritten refl entered) ∙ written-said token w))
 
 -- Where the answer is not a cyclic one whose data outcome is "written", the common memory is the same.
 pub memory-same : (station : Station) (octets memory assembly : List ℕ)

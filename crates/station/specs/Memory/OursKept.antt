@@ -9,7 +9,7 @@ use Rattle.area.specs.Words.{shared-overlap}
 use Rattle.area.specs.declared.Area.the-variants.{One, Two}
 use Rattle.members.specs.Members.{entryOf}
 use Rattle.station.specs.States.Apart.{apart}
-use Rattle.station.specs.Outcomes.HearCases.{writes, keeps, drops, HearCases, refuses, turnsOff, gathers, heeds, hear-cases}
+use Rattle.station.specs.Outcomes.HearCases.{writes, keeps, repeats, drops, HearCases, refuses, turnsOff, gathers, heeds, hear-cases}
 use Rattle.station.specs.Rules.Hearing.{lentRight, hearOf, Hearing}
 use Rattle.station.specs.States.Sound.{sound}
 use Rattle.station.specs.Memory.Places.{In, written-outside}
@@ -56,7 +56,7 @@ ours-kept station reached octets memory assembly at ours = by (hear-cases statio
     by : {result : Hearing} → HearCases station octets memory assembly result → getD (result .memory) at 0 ≡ getD memory at 0
     by (refuses refusal) = refl
     by (turnsOff out) = refl
-    by (gathers frame {after} from (writes areas next last)) =
+    by (gathers frame {after} from (writes areas new next last)) =
         let ok : Sound station = sound station reached in
         let ranged-ours = ok .ours (rw (from .participates)) .areas in
         let ranged = ok .list .each (frame .source) (from .listed) .areas in
@@ -64,6 +64,7 @@ ours-kept station reached octets memory assembly at ours = by (hear-cases statio
         let never = not-both (station .own .areas) (entryOf (station .members) (frame .source) .areas) ranged-ours ranged clear at ours in
         written-outside (entryOf (station .members) (frame .source) .areas) (after .assembly) memory ranged
         (memory-long memory assembly (from .accepts .lent)) at (λ p. never (inOne p)) (λ p. never (inTwo p))
-    by (gathers frame from (keeps areas next last)) = refl
-    by (gathers frame from drops) = refl
+    by (gathers frame from (keeps areas new next last)) = refl
+    by (gathers frame from (repeats areas again)) = refl
+    by (gathers frame from (drops why)) = refl
     by (heeds frame facts entered) = refl

@@ -62,7 +62,7 @@ hearsNothing tick = true
 hearsNothing (hear octets memory assembly) = false
 hearsNothing (ask memory turn output) = true
 
--- the cyclic frames accepted since off, the latest first, with the state that all calls leave, each frame heard with the assembly buffer as it was
+-- the cyclic frames accepted since off that are no repeats, the latest first, with the state that all calls leave, each frame heard with the assembly buffer as it was
 -- left, and that buffer
 pub data Lending : List (List ℕ) → Station → List ℕ → Type 0 where
   begins : (assembly : List ℕ) → Lending [] never assembly
@@ -92,8 +92,8 @@ lending-gathers _ _ (hears {station = station} {assembly = assembly} before octe
 lending-gathers _ _ (calls {station = station} {assembly = assembly} before call typed other) =
     call-gathers station assembly call other (lending-gathers station assembly before)
 
--- Each turn that is written is blocks 1 to the last of its source, in order, which are the latest cyclic frames accepted, the one just heard
--- included.
+-- Each turn that is written is blocks 1 to the last of its source, in order, which are the latest cyclic frames accepted that are no repeats, the
+-- one just heard included.
 pub turn-whole : {heard : List (List ℕ)} (station : Station) (assembly : List ℕ) → Lending heard station assembly → (octets memory : List ℕ) (token : Token)
     → hearOf station octets memory assembly .answer ≡ answers.Cyclic token → dataOf token ≡ Written
     → (frame : Fields) × Whole station octets memory assembly frame

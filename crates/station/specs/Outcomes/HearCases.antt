@@ -10,7 +10,7 @@ use Rattle.laws.specs.Tests.{first, second, implied}
 use Rattle.members.specs.Members.{entryOf, isListed}
 use Rattle.frame_reading.specs.Reading.{andThen, readHeaderOf, readBodyOf, readOf, dataOf}
 use Rattle.frame_round_trip.specs.Accepted.{Accepted, accepted as passed, bodied}
-use Rattle.station.specs.Rules.Data.{Gathered, turnWritten, sameAreas, isNext, dropped, gathered}
+use Rattle.station.specs.Rules.Data.{Gathered, turnWritten, sameAreas, isNext, isRepeat, repeated, dropped, gathered}
 use Rattle.station.specs.Rules.Hearing.{Hearing, requested, enters, entersAnswer, participantHeard, accepted, isTaken, knows, isStranger, lentRight, refused, bodyHeard, headerHeard, hearOf}
 use Rattle.station.specs.Rules.Starting.{joinedBy}
 use Rattle.station.specs.Rules.State.{isOff, isParticipating, nothing, fresh, stopped}
@@ -35,23 +35,30 @@ pub record FromMember (station : Station) (octets memory assembly : List ℕ) (f
   pub listed : isListed (station .members) (frame .source) ≡ true
   pub destination : isToken (frame .code) ≡ true → knows station (frame .destination) ≡ true
 
--- what becomes of its data: the turn is written, or the block kept, or all dropped
+-- whether its data are those of the last block still gathered
+abbrev pub repeats? : Station → Fields → List ℕ → List ℕ → Bool
+repeats? station frame octets assembly = isRepeat (station .gathering) frame (dataOf octets frame) assembly
+
+-- what becomes of its data: the turn is written, or the block kept, or it is a repeat, or all dropped
 pub data GatherCases (station : Station) (frame : Fields) (octets memory assembly : List ℕ) : Gathered → Type 0 where
-  writes : sameAreas (frame .areas) (entryOf (station .members) (frame .source) .areas) ≡ true → isNext (station .gathering) frame ≡ true
-      → eqb (frame .block) (frame .blocks) ≡ true → GatherCases station frame octets memory assembly (record {
+  writes : sameAreas (frame .areas) (entryOf (station .members) (frame .source) .areas) ≡ true → repeats? station frame octets assembly ≡ false
+      → isNext (station .gathering) frame ≡ true → eqb (frame .block) (frame .blocks) ≡ true → GatherCases station frame octets memory assembly (record {
         gathering = nothing;
         assembly = pasted assembly (startOf (frame .block)) (dataOf octets frame);
         memory = turnWritten (entryOf (station .members) (frame .source) .areas) (pasted assembly (startOf (frame .block)) (dataOf octets frame)) memory;
         outcome = Written;
       })
-  keeps : sameAreas (frame .areas) (entryOf (station .members) (frame .source) .areas) ≡ true → isNext (station .gathering) frame ≡ true
-      → eqb (frame .block) (frame .blocks) ≡ false → GatherCases station frame octets memory assembly (record {
+  keeps : sameAreas (frame .areas) (entryOf (station .members) (frame .source) .areas) ≡ true → repeats? station frame octets assembly ≡ false
+      → isNext (station .gathering) frame ≡ true → eqb (frame .block) (frame .blocks) ≡ false → GatherCases station frame octets memory assembly (record {
         gathering = record { source = frame .source; blocks = frame .block };
         assembly = pasted assembly (startOf (frame .block)) (dataOf octets frame);
         memory = memory;
         outcome = Kept;
       })
-  drops : GatherCases station frame octets memory assembly (dropped assembly memory)
+  repeats : sameAreas (frame .areas) (entryOf (station .members) (frame .source) .areas) ≡ true → repeats? station frame octets assembly ≡ true
+      → GatherCases station frame octets memory assembly (repeated (station .gathering) assembly memory)
+  drops : (sameAreas (frame .areas) (entryOf (station .members) (frame .source) .areas) && repeats? station frame octets assembly) ≡ false
+      → GatherCases station frame octets memory assembly (dropped assembly memory)
 
 -- the phases in which a token frame begins joining, and those in which a request is listed
 pub data Awaits : Phase → Type 0 where
@@ -130,7 +137,8 @@ module _ (station : Station) (octets memory assembly : List ℕ) where
   gather-cases : (frame : Fields)
       → GatherCases station frame octets memory assembly (gathered station frame (dataOf octets frame) assembly memory)
   gather-cases frame =
-      by (sameAreas (frame .areas) listed) refl (isNext (station .gathering) frame) refl (eqb (frame .block) (frame .blocks)) refl
+      by (sameAreas (frame .areas) listed) refl (repeats? station frame octets assembly) refl (isNext (station .gathering) frame) refl
+      (eqb (frame .block) (frame .blocks)) refl
     where
       listed : Areas
       listed = entryOf (station .members) (frame .source) .areas
@@ -138,18 +146,21 @@ module _ (station : Station) (octets memory assembly : List ℕ) where
       stored : List ℕ
       stored = pasted assembly (startOf (frame .block)) (dataOf octets frame)
 
-      by : (areas : Bool) → sameAreas (frame .areas) listed ≡ areas → (next : Bool) → isNext (station .gathering) frame ≡ next
-          → (last : Bool) → eqb (frame .block) (frame .blocks) ≡ last
+      by : (areas : Bool) → sameAreas (frame .areas) listed ≡ areas → (again : Bool) → repeats? station frame octets assembly ≡ again
+          → (next : Bool) → isNext (station .gathering) frame ≡ next → (last : Bool) → eqb (frame .block) (frame .blocks) ≡ last
           → GatherCases station frame octets memory assembly
-          (cond (areas && next)
+          (cond (not areas) (dropped assembly memory)
+          (cond again (repeated (station .gathering) assembly memory)
+          (cond next
           (cond last
           (record { gathering = nothing; assembly = stored; memory = turnWritten listed stored memory; outcome = Written })
           (record { gathering = record { source = frame .source; blocks = frame .block }; assembly = stored; memory = memory; outcome = Kept }))
-          (dropped assembly memory))
-      by true a true n true l = writes a n l
-      by true a true n false l = keeps a n l
-      by true a false n last l = drops
-      by false a next n last l = drops
+          (dropped assembly memory))))
+      by true a true r next n last l = repeats a r
+      by true a false r true n true l = writes a r n l
+      by true a false r true n false l = keeps a r n l
+      by true a false r false n last l = drops (rw (a, r))
+      by false a again r next n last l = drops (rw a)
 
   from-member : (frame : Fields) → Accepts station octets memory assembly frame → station .phase ≡ Participating → isCyclic (frame .code) ≡ true
       → FromMember station octets memory assembly frame

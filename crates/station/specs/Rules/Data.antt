@@ -1,13 +1,14 @@
--- Paper 01, "Data": putting divided cyclic data together, and the copy that a turn is sent from.
-use Rattle.laws.specs.Usual.{Bool, cond, _&&_, _||_, List, _++_, ℕ, _+_, _*_, take, drop, eqb}
+-- Paper 01, "Data": putting divided cyclic data together, and the copy that a turn is sent from; paper 02, E4: a block heard twice.
+use Rattle.laws.specs.Usual.{Bool, cond, not, _&&_, _||_, List, _++_, ℕ, _+_, _*_, length, take, drop, eqb}
 use Rattle.area.specs.Areas.{spanOf}
 use Rattle.area.specs.declared.Area.the-variants.{One, Two}
 use Rattle.area.specs.declared.Span.{Span}
 use Rattle.block.specs.Blocks.{startOf}
+use Rattle.comparing.specs.Same.{same}
 use Rattle.copying.specs.Pasted.{pasted}
 use Rattle.members.specs.Members.{entryOf}
 use Rattle.station.specs.Rules.State.{nothing}
-use Rattle.station.specs.Types.{Areas, Fields, Gathering, Station, Data, Kept, Written, Dropped}
+use Rattle.station.specs.Types.{Areas, Fields, Gathering, Station, Data, Kept, Written, Dropped, Repeat}
 
 -- the octets of a span
 abbrev pub octetsIn : Span → List ℕ → List ℕ
@@ -38,6 +39,18 @@ pub record Gathered : Type 0 where
   pub memory : List ℕ
   pub outcome : Data
 
+-- "the same source, number, length and octets as the last one still gathered (in the assembly buffer as now lent)". The block heard is laid on
+-- that buffer at its place. Its length is that of the gathered one: both are a block of this number, cut from the listed areas, and before the
+-- last (`repeat-said`).
+abbrev pub isRepeat : Gathering → Fields → List ℕ → List ℕ → Bool
+isRepeat gathering frame octets assembly =
+    (eqb (gathering .source) (frame .source) && eqb (gathering .blocks) (frame .block))
+    && same octets (take (length octets) (drop (startOf (frame .block)) assembly))
+
+-- it "shall be passed over": nothing is gathered, and no octet changes
+abbrev pub repeated : Gathering → List ℕ → List ℕ → Gathered
+repeated gathering assembly memory = record { gathering = gathering; assembly = assembly; memory = memory; outcome = Repeat }
+
 -- "Block 1 starts afresh. A block that isn't the next of the same source drops what was gathered, and itself unless it is block 1."
 abbrev pub isNext : Gathering → Fields → Bool
 isNext gathering frame =
@@ -53,12 +66,15 @@ storing listed frame assembly memory =
     (record { gathering = nothing; assembly = assembly; memory = turnWritten listed assembly memory; outcome = Written })
     (record { gathering = record { source = frame .source; blocks = frame .block }; assembly = assembly; memory = memory; outcome = Kept })
 
--- "Data are dropped with what was gathered, token still read, if the frame's areas differ from the listed ones."
+-- "Data are dropped with what was gathered, token still read, if the frame's areas differ from the listed ones." A repeat is asked for before
+-- block 1 starts afresh: block 1, where it is all that is gathered, is one too.
 abbrev pub gatheredFrom : Gathering → Areas → Fields → List ℕ → List ℕ → List ℕ → Gathered
 gatheredFrom gathering listed frame octets assembly memory =
-    cond (sameAreas (frame .areas) listed && isNext gathering frame)
+    cond (not (sameAreas (frame .areas) listed)) (dropped assembly memory)
+    (cond (isRepeat gathering frame octets assembly) (repeated gathering assembly memory)
+    (cond (isNext gathering frame)
     (storing listed frame (pasted assembly (startOf (frame .block)) octets) memory)
-    (dropped assembly memory)
+    (dropped assembly memory)))
 
 -- the listed ones are those that the source has in our list
 abbrev pub gathered : Station → Fields → List ℕ → List ℕ → List ℕ → Gathered

@@ -5,7 +5,7 @@ use Rattle.block.specs.Blocks.{blocksOf}
 use Rattle.members.specs.Members.{entryOf, cleared}
 use Rattle.frame_reading.specs.Reading.{isStation}
 use Rattle.station.specs.Rules.Data.{Gathered}
-use Rattle.station.specs.Outcomes.HearCases.{FromMember, GatherCases, writes, keeps, drops, HearCases, refuses, turnsOff, gathers, heeds, whole-of, other-of, hear-cases}
+use Rattle.station.specs.Outcomes.HearCases.{FromMember, GatherCases, writes, keeps, repeats, drops, HearCases, refuses, turnsOff, gathers, heeds, whole-of, other-of, hear-cases}
 use Rattle.station.specs.Rules.Hearing.{Hearing, hearOf}
 use Rattle.station.specs.States.KeepsEntering.{Fit, fit, same-blocks, enters-sound, view-has}
 use Rattle.station.specs.States.KeepsStarting.{off-sound, restarted-sound}
@@ -19,8 +19,8 @@ module _ (station : Station) (octets memory assembly : List ℕ) (ok : Sound sta
   gathered-placed : (frame : Fields) {after : Gathered} → FromMember station octets memory assembly frame → Fit frame
       → GatherCases station frame octets memory assembly after → eqb (after .gathering .source) 0 ≡ false
       → Placed (cleared (station .members) (frame .source)) (after .gathering)
-  gathered-placed frame from fits (writes areas next last) e = absurd (false≢true (sym e))
-  gathered-placed frame from fits (keeps areas next last) e =
+  gathered-placed frame from fits (writes areas new next last) e = absurd (false≢true (sym e))
+  gathered-placed frame from fits (keeps areas new next last) e =
       let same = same-blocks (frame .areas) (entryOf (station .members) (frame .source) .areas) areas in
       let total = fits .total (from .cyclic) in
       let most = fits .last (from .cyclic) in
@@ -29,7 +29,9 @@ module _ (station : Station) (octets memory assembly : List ℕ) (ok : Sound sta
       let within : frame .block < blocksOf (entryOf (station .members) (frame .source) .areas) = rw (← same, ← total) some in
       placed-misses {members = station .members} {gathering = record { source = frame .source; blocks = frame .block }}
       (record { listed = from .listed; some = fits .from (from .cyclic); blocks = within }) (frame .source) 0
-  gathered-placed frame from fits drops e = absurd (false≢true (sym e))
+  gathered-placed frame from fits (repeats areas again) e =
+      placed-misses {members = station .members} {gathering = station .gathering} (ok .gathering e) (frame .source) 0
+  gathered-placed frame from fits (drops why) e = absurd (false≢true (sym e))
 
   pub hear-sound : ((at : ℕ) → getD octets at 0 < 256) → Sound (hearOf station octets memory assembly .station)
   hear-sound typed = by (hear-cases station octets memory assembly)
