@@ -1,14 +1,13 @@
 // Putting a turn's blocks together, and writing the turn to the common memory.
 use area::Area;
 use area::Areas;
-use area::Part;
 use frame::Fields;
 use station::Data;
 use station::Gathering;
-ghost use Rattle.laws.specs.Usual.{_≡_, true, _&&_, _+_, _≤_, length, eqb};
+ghost use Rattle.laws.specs.Usual.{_≡_, true, _+_, _≤_, length};
 ghost use Rattle.area.specs.Areas.{inRange, memoryOctets};
 ghost use Rattle.block.specs.Blocks.{startOf};
-ghost use Rattle.station.specs.Rules.Data.{turnWritten, sameAreas, isRepeat, isNext, storing, gatheredFrom};
+ghost use Rattle.station.specs.Rules.Data.{turnWritten, storing, gatheredFrom};
 ghost use Rattle.station.specs.Rules.State.{nothing};
 ghost use Rattle.station.specs.declared.Data.the-variants.{Dropped};
 
@@ -16,40 +15,6 @@ ghost use Rattle.station.specs.declared.Data.the-variants.{Dropped};
 pub struct Stored {
     pub gathering: Gathering,
     pub outcome: Data,
-}
-
-fn same_part(a: Part, b: Part) -> bool
-    ensures { λ r. ⌜ r ≡ eqb (a .address) (b .address) && eqb (a .size) (b .size) ⌝ }
-{
-    (a.address == b.address) & (a.size == b.size)
-}
-
-fn same_areas(a: Areas, b: Areas) -> bool
-    ensures { λ r. ⌜ r ≡ sameAreas a b ⌝ }
-{
-    same_part(a.one, b.one) & same_part(a.two, b.two)
-}
-
-// "the same source, number, length and octets as the last one still gathered". The octets are compared where they stand, and only for such a number.
-fn is_repeat(gathering: Gathering, frame: Fields, octets: &[u8], assembly: &[u8]) -> bool
-    requires { ⌜ startOf (frame .block) + length (now octets) ≤ memoryOctets ⌝ }
-    requires { ⌜ length (now assembly) ≡ memoryOctets ⌝ }
-    ensures { λ r. ⌜ r ≡ isRepeat gathering frame (now (octets .entry)) (now (assembly .entry)) ⌝ }
-{
-    if (gathering.source == frame.source) & (gathering.blocks == frame.block) {
-        let start = block::block_start(frame.block);
-        let end = start + octets.len();
-        return comparing::same(octets, &assembly[start..end]);
-    }
-    false
-}
-
-// "Block 1 starts afresh. A block that isn't the next of the same source drops what was gathered".
-fn is_next(gathering: Gathering, frame: Fields) -> bool
-    ensures { λ r. ⌜ r ≡ isNext gathering frame ⌝ }
-{
-    let follows = gathering.blocks as u16 + 1 == frame.block as u16;
-    (frame.block == 1) | ((gathering.source == frame.source) & follows)
 }
 
 // "A turn's data are the station's area 1 then its area 2": each goes to its place in the common memory by the table of areas.
@@ -125,16 +90,16 @@ pub fn gather(
     ensures { λ _. ⌜ now (memory .exit) ≡ gatheredFrom gathering listed frame (now (octets .entry)) (now (assembly .entry)) (now (memory .entry)) .memory ⌝ }
 {
     let areas = frame.areas;
-    if !same_areas(areas, listed) {
+    if !hearing_blocks::same_areas(areas, listed) {
         return drop_both();
     }
-    if is_repeat(gathering, frame, octets, assembly) {
+    if hearing_blocks::is_repeat(gathering, frame, octets, assembly) {
         return Stored {
             gathering,
             outcome: Data::Repeat,
         };
     }
-    if is_next(gathering, frame) {
+    if hearing_blocks::is_next(gathering, frame) {
         copying::copy_into(octets, assembly, block::block_start(frame.block));
         return finish(listed, frame, assembly, memory);
     }

@@ -1,12 +1,14 @@
 -- `hearing_gathering::gather` meets its contract.
-use Rattle.laws.specs.Usual.{_≡_, refl, sym, ap, _∙_, Bool, true, false, cond, _&&_, List, ℕ, arith, eqb, needs}
+use Rattle.laws.specs.Usual.{_≡_, refl, sym, ap, _∙_, Bool, true, false, cond, not, _&&_, List, ℕ, arith, eqb, needs}
 use borrow.Author.Tests.{eqb-true, not-false}
 use Rattle.area.specs.Areas.{inRange}
+use Rattle.block.specs.Blocks.{startOf}
 use Rattle.copying.specs.Pasted.{pasted}
 use Rattle.laws.specs.Tests.{first, second}
-use Rattle.station.specs.Rules.Data.{Gathered, sameAreas, turnWritten, storing}
+use Rattle.station.specs.Rules.Data.{Gathered, sameAreas, isRepeat, isNext, turnWritten, storing, gatheredFrom}
 use Rattle.station.specs.Rules.State.{nothing}
 use Rattle.station.specs.Types.{Areas, Fields}
+use Rattle.station.specs.declared.Gathering.{Gathering}
 use Rattle.station.specs.declared.Data.the-variants.{Kept, Written}
 use Rattle.hearing_gathering.proofs.gather.Statement.{statement}
 use Rattle.hearing_gathering.proofs.gather.Tie as tie
@@ -34,6 +36,12 @@ same-assembly listed frame assembly memory = by (eqb (frame .block) (frame .bloc
         ≡ assembly
     by true = refl
     by false = refl
+
+-- a block that is no repeat and follows is stored
+stores : (gathering : Gathering) (listed : Areas) (frame : Fields) (octets assembly memory : List ℕ) → not (sameAreas (frame .areas) listed) ≡ false
+    → isRepeat gathering frame octets assembly ≡ false → isNext gathering frame ≡ true
+    → storing listed frame (pasted assembly (startOf (frame .block)) octets) memory ≡ gatheredFrom gathering listed frame octets assembly memory
+stores gathering listed frame octets assembly memory alike new next = rw (alike, new, next)
 
 same-areas-requires : tie.Need-same-areas-requires
 same-areas-requires c κs = tt
@@ -88,7 +96,13 @@ returns-3 c =
     let next = rw (c .before .before .before .before .before .before .before .before .before .before .before .is-next .ensures) at (c .before .before .before .before .before .before .before .before .before .before .if3 .taken) in
     let stored = c .before .before .before .before .before .before .before .copy-into .ensures ∙ ap (λ (at : ℕ). pasted (a .assembly .now) at (a .octets .now)) (c .before .before .before .before .before .before .before .before .block-start .ensures) in
     let ended = c .before .before .finish .ensures in
-    (ended .0 ∙ rw (alike, new, next, stored), (ended .1 .0 ∙ rw (alike, new, next, stored), (stored ∙ rw (alike, new, next) (sym (same-assembly (a .listed) (a .frame) _ (a .memory .now))), ended .1 .1 ∙ rw (alike, new, next, stored))))
+    let is = stores (a .gathering) (a .listed) (a .frame) (a .octets .now) (a .assembly .now) (a .memory .now) alike new next in
+    let whole = pasted (a .assembly .now) (startOf (a .frame .block)) (a .octets .now) in
+    let gathering = ended .0 ∙ ap (λ (l : List ℕ). storing (a .listed) (a .frame) l (a .memory .now) .gathering) stored ∙ ap (λ (g : Gathered). g .gathering) is in
+    let outcome = ended .1 .0 ∙ ap (λ (l : List ℕ). storing (a .listed) (a .frame) l (a .memory .now) .outcome) stored ∙ ap (λ (g : Gathered). g .outcome) is in
+    let assembly = stored ∙ sym (same-assembly (a .listed) (a .frame) whole (a .memory .now)) ∙ ap (λ (g : Gathered). g .assembly) is in
+    let memory = ended .1 .1 ∙ ap (λ (l : List ℕ). storing (a .listed) (a .frame) l (a .memory .now) .memory) stored ∙ ap (λ (g : Gathered). g .memory) is in
+    (gathering, (outcome, (assembly, memory)))
 
 drop-both-requires-2 : tie.Need-drop-both-requires-2
 drop-both-requires-2 c κs = tt

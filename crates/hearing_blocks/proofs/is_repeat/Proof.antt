@@ -1,8 +1,8 @@
--- `hearing_gathering::is_repeat` meets its contract.
+-- `hearing_blocks::is_repeat` meets its contract.
 use Rattle.laws.specs.Usual.{_≡_, ap, _∙_, ℕ, _+_, _-_, arith, length, take, drop, needs}
 use Rattle.comparing.specs.Same.{same}
-use Rattle.hearing_gathering.proofs.is_repeat.Statement.{statement}
-use Rattle.hearing_gathering.proofs.is_repeat.Tie as tie
+use Rattle.hearing_blocks.proofs.is_repeat.Statement.{statement}
+use Rattle.hearing_blocks.proofs.is_repeat.Tie as tie
 
 block-start-requires : tie.Need-block-start-requires
 block-start-requires c κs = tt

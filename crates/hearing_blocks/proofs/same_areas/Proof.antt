@@ -1,6 +1,6 @@
--- `hearing_gathering::same_areas` meets its contract.
-use Rattle.hearing_gathering.proofs.same_areas.Statement.{statement}
-use Rattle.hearing_gathering.proofs.same_areas.Tie as tie
+-- `hearing_blocks::same_areas` meets its contract.
+use Rattle.hearing_blocks.proofs.same_areas.Statement.{statement}
+use Rattle.hearing_blocks.proofs.same_areas.Tie as tie
 
 same-part-requires : tie.Need-same-part-requires
 same-part-requires c κs = tt

@@ -1,7 +1,7 @@
--- `hearing_gathering::is_next` meets its contract.
+-- `hearing_blocks::is_next` meets its contract.
 use Rattle.laws.specs.Usual.{refl, arith}
-use Rattle.hearing_gathering.proofs.is_next.Statement.{statement}
-use Rattle.hearing_gathering.proofs.is_next.Tie as tie
+use Rattle.hearing_blocks.proofs.is_next.Statement.{statement}
+use Rattle.hearing_blocks.proofs.is_next.Tie as tie
 
 cast-follows : tie.Need-cast-follows
 cast-follows c = omega arith
