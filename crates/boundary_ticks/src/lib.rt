@@ -26,8 +26,8 @@ pub fn tick(
 {
     let state = core_in(core);
     let time = boundary_watch::watch_time(state, listed, watch);
-    if boundary_counting::counts(state, time) {
-        keep(core, boundary_counting::count(state, time));
+    if boundary_calm::counts(state, time) {
+        keep(core, boundary_calm::count(state, time));
         return boundary_core::done();
     }
     keep_outcome(

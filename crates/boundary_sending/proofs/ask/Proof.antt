@@ -1,4 +1,4 @@
--- `boundary_in_place::ask` meets its contract.
+-- `boundary_sending::ask` meets its contract.
 use Rattle.boundary_participant.specs.Quick.{sentCore}
 use Rattle.boundary_answers.specs.Numbers.{frameAnswer, askedAnswer}
 use Rattle.boundary_core.specs.Crossing.{coreOf, stationOf}
@@ -12,8 +12,8 @@ use Rattle.laws.specs.Tests.{first, second}
 use Rattle.boundary_lists.specs.Laws.{next-in}
 use Rattle.boundary_lists.specs.Lists.{membersIn}
 use Rattle.boundary_participant.specs.Quick.{held-placed, held-asked}
-use Rattle.boundary_in_place.proofs.ask.Statement.{statement}
-use Rattle.boundary_in_place.proofs.ask.Tie as tie
+use Rattle.boundary_sending.proofs.ask.Statement.{statement}
+use Rattle.boundary_sending.proofs.ask.Tie as tie
 
 next-after-ours-requires : tie.Need-next-after-ours-requires
 next-after-ours-requires c κs = tt

@@ -1,8 +1,8 @@
--- `boundary_counting::counts` meets its contract.
+-- `boundary_calm::counts` meets its contract.
 use Rattle.laws.specs.Usual.{sym, ap, _∙_, Bool, _||_}
 use Rattle.boundary_waiting.specs.Waiting.{isWaiting}
-use Rattle.boundary_counting.proofs.counts.Statement.{statement}
-use Rattle.boundary_counting.proofs.counts.Tie as tie
+use Rattle.boundary_calm.proofs.counts.Statement.{statement}
+use Rattle.boundary_calm.proofs.counts.Tie as tie
 
 is-quiet-requires : tie.Need-is-quiet-requires
 is-quiet-requires c κs = tt

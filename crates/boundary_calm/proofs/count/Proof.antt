@@ -1,9 +1,9 @@
--- `boundary_counting::count` meets its contract.
+-- `boundary_calm::count` meets its contract.
 use Rattle.laws.specs.Usual.{sym, ap, _∙_, Bool, cond}
 use Rattle.boundary_watch.specs.Watch.{quietAfter}
 use Rattle.boundary_waiting.specs.Waiting.{waitedCore}
-use Rattle.boundary_counting.proofs.count.Statement.{statement}
-use Rattle.boundary_counting.proofs.count.Tie as tie
+use Rattle.boundary_calm.proofs.count.Statement.{statement}
+use Rattle.boundary_calm.proofs.count.Tie as tie
 
 is-quiet-requires : tie.Need-is-quiet-requires
 is-quiet-requires c κs = tt
