@@ -1,7 +1,7 @@
--- `members::clear` meets its contract.
+-- `members_misses::clear` meets its contract.
 use Rattle.laws.specs.Usual.{_∙_}
-use Rattle.members.proofs.clear.Statement.{statement}
-use Rattle.members.proofs.clear.Tie as tie
+use Rattle.members_misses.proofs.clear.Statement.{statement}
+use Rattle.members_misses.proofs.clear.Tie as tie
 
 entry-of-requires : tie.Need-entry-of-requires
 entry-of-requires c κs = tt

@@ -1,8 +1,8 @@
--- `members::strikes` meets its contract.
+-- `members_misses::strikes` meets its contract.
 use Rattle.laws.specs.Usual.{ap, leb}
 use Rattle.members.specs.declared.Entry.{Entry}
-use Rattle.members.proofs.strikes.Statement.{statement}
-use Rattle.members.proofs.strikes.Tie as tie
+use Rattle.members_misses.proofs.strikes.Statement.{statement}
+use Rattle.members_misses.proofs.strikes.Tie as tie
 
 entry-of-requires : tie.Need-entry-of-requires
 entry-of-requires c κs = tt

@@ -1,7 +1,7 @@
--- `boundary_keeping::leave` meets its contract.
+-- `boundary_handing::leave` meets its contract.
 use Rattle.laws.specs.Usual.{arith}
-use Rattle.boundary_keeping.proofs.leave.Statement.{statement}
-use Rattle.boundary_keeping.proofs.leave.Tie as tie
+use Rattle.boundary_handing.proofs.leave.Statement.{statement}
+use Rattle.boundary_handing.proofs.leave.Tie as tie
 
 are-eighteen-requires : tie.Need-are-eighteen-requires
 are-eighteen-requires c κs = omega arith

@@ -1,10 +1,10 @@
--- `members::miss` meets its contract.
+-- `members_misses::miss` meets its contract.
 use Rattle.laws.specs.Usual.{sym, ap, _∙_, arith}
 use borrow.Author.Tests.{not-true, not-false, leb-false}
 use Rattle.members.specs.Members.{entryOf}
 use Rattle.members.specs.declared.Entry.{Entry}
-use Rattle.members.proofs.miss.Statement.{statement}
-use Rattle.members.proofs.miss.Tie as tie
+use Rattle.members_misses.proofs.miss.Statement.{statement}
+use Rattle.members_misses.proofs.miss.Tie as tie
 
 entry-of-requires : tie.Need-entry-of-requires
 entry-of-requires c κs = tt
