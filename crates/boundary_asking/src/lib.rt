@@ -35,7 +35,7 @@ fn ask_block(
     ensures { λ _. ⌜ now (output .exit) ≡ askOf (stationIn state (now (listed .entry)) (now (areas .entry)) (now (watch .entry)) (now (misses .entry))) (now (memory .entry)) (now (turn .entry)) (now (output .entry)) .output ⌝ }
     ensures { λ _. ⌜ membersIn (now (listed .exit)) (now (areas .exit)) (now (watch .exit)) (now (misses .exit)) ≡ askOf (stationIn state (now (listed .entry)) (now (areas .entry)) (now (watch .entry)) (now (misses .entry))) (now (memory .entry)) (now (turn .entry)) (now (output .entry)) .station .members ⌝ }
 {
-    let asked = boundary_in_place::ask(state, listed, areas, watch, misses, memory, turn, output);
+    let asked = boundary_sending::ask(state, listed, areas, watch, misses, memory, turn, output);
     let answer = asked.answer;
     let after = asked.core;
     keep(core, after);

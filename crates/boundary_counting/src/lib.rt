@@ -2,33 +2,11 @@
 use boundary_core::Core;
 use boundary_core::Outcome;
 use station::Ticked;
-use units::Milliseconds;
 ghost use mathlib.Core.Path.{_≡_};
 ghost use Rattle.boundary_core.specs.Crossing.{coreOf, stationIn};
 ghost use Rattle.boundary_answers.specs.Numbers.{tickedAnswer};
 ghost use Rattle.boundary_lists.specs.Lists.{membersIn};
 ghost use Rattle.station.specs.Rules.Ticking.{tickOf};
-ghost use Rattle.boundary_counting.specs.Counting.{onlyCounts, countedCore};
-
-// Whether the next tick only counts, where the watch runs for a time.
-pub fn counts(core: Core, time: Milliseconds) -> bool
-    ensures { λ r. ⌜ r ≡ onlyCounts core time ⌝ }
-{
-    if boundary_watch::is_quiet(core, time) {
-        return true;
-    }
-    boundary_waiting::is_waiting(core)
-}
-
-// The core after a tick that only counts.
-pub fn count(core: Core, time: Milliseconds) -> Core
-    ensures { λ r. ⌜ r ≡ countedCore core time ⌝ }
-{
-    if boundary_watch::is_quiet(core, time) {
-        return boundary_watch::quiet(core);
-    }
-    boundary_waiting::count(core)
-}
 
 pub fn tick(
     core: Core,
@@ -42,9 +20,9 @@ pub fn tick(
     ensures { λ _. ⌜ membersIn (now (listed .exit)) (now (areas .exit)) (now (watch .exit)) (now (misses .exit)) ≡ tickOf (stationIn core (now (listed .entry)) (now (areas .entry)) (now (watch .entry)) (now (misses .entry))) .station .members ⌝ }
 {
     let time = boundary_watch::watch_time(core, listed, watch);
-    if counts(core, time) {
+    if boundary_calm::counts(core, time) {
         return Outcome {
-            core: count(core, time),
+            core: boundary_calm::count(core, time),
             answer: boundary_core::done(),
         };
     }

@@ -135,7 +135,7 @@ pub fn hear(
             assembly,
         ),
         Read::Refused(refusal) => {
-            boundary_keeping::leave(core);
+            boundary_handing::leave(core);
             refused(boundary_refused::heard_refusal(lent, refusal))
         }
     }

@@ -1,18 +1,15 @@
-// A participant's calls with the list in place: a cyclic frame that is accepted, and a holder's block.
+// A participant's cyclic frame that is accepted, heard with the list in place.
 use boundary_core::Core;
 use boundary_core::Outcome;
-use boundary_core::frame_answer;
 use boundary_heard::hear_accepted;
-use boundary_participant::sent_block;
 use frame::Fields;
 ghost use Rattle.laws.specs.Usual.{_≡_, true, false, getD};
 ghost use Rattle.boundary_core.specs.Crossing.{coreOf, stationIn};
-ghost use Rattle.boundary_told.specs.Told.{heardTold, askedTold};
-ghost use Rattle.boundary_participant.specs.Quick.{isAccepted, holdsBlock};
+ghost use Rattle.boundary_told.specs.Told.{heardTold};
+ghost use Rattle.boundary_participant.specs.Quick.{isAccepted};
 ghost use Rattle.boundary_lists.specs.Lists.{membersIn};
 ghost use Rattle.frame_reading.specs.Reading.{readOf};
 ghost use Rattle.frame_reading.specs.declared.Read.the-variants as reads;
-ghost use Rattle.station.specs.Rules.Asking as asks;
 ghost use Rattle.station.specs.Rules.Hearing.{lentRight, hearOf};
 
 // The numbers of source and destination are given apart, for the places that they have in the list.
@@ -44,31 +41,4 @@ pub fn hear(
     let parts = entry.areas;
     boundary_lists::clear(misses, source);
     hear_accepted(core, parts, frame, octets, memory, assembly)
-}
-
-pub fn ask(
-    core: Core,
-    listed: &[bool; 256],
-    areas: &[u16; boundary_lists::AREA_NUMBERS],
-    watch: &[u8; 256],
-    misses: &[u8; 256],
-    memory: &[u8],
-    turn: &mut [u8],
-    output: &mut [u8],
-) -> Outcome
-    requires { ⌜ holdsBlock core ≡ true ⌝ }
-    requires { ⌜ asks.lentRight (now memory) (now turn) (now output) ≡ true ⌝ }
-    ensures { λ r. ⌜ r .core ≡ coreOf (asks.askOf (stationIn core (now (listed .entry)) (now (areas .entry)) (now (watch .entry)) (now (misses .entry))) (now (memory .entry)) (now (turn .entry)) (now (output .entry)) .station) ⌝ }
-    ensures { λ r. ⌜ r .answer ≡ askedTold (asks.askOf (stationIn core (now (listed .entry)) (now (areas .entry)) (now (watch .entry)) (now (misses .entry))) (now (memory .entry)) (now (turn .entry)) (now (output .entry)) .output) (asks.askOf (stationIn core (now (listed .entry)) (now (areas .entry)) (now (watch .entry)) (now (misses .entry))) (now (memory .entry)) (now (turn .entry)) (now (output .entry)) .answer) ⌝ }
-    ensures { λ _. ⌜ now (turn .exit) ≡ asks.askOf (stationIn core (now (listed .entry)) (now (areas .entry)) (now (watch .entry)) (now (misses .entry))) (now (memory .entry)) (now (turn .entry)) (now (output .entry)) .turn ⌝ }
-    ensures { λ _. ⌜ now (output .exit) ≡ asks.askOf (stationIn core (now (listed .entry)) (now (areas .entry)) (now (watch .entry)) (now (misses .entry))) (now (memory .entry)) (now (turn .entry)) (now (output .entry)) .output ⌝ }
-{
-    let own = core.own;
-    let next = boundary_flags::next_after_ours(own.number, listed);
-    let octets = asking_sending::send_next(own, core.block, next, memory, turn, output);
-    let answer = boundary_told::tell_written(frame_answer(octets), output);
-    Outcome {
-        core: sent_block(core, next),
-        answer,
-    }
 }

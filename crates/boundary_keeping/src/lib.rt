@@ -1,23 +1,9 @@
 // A core put into the numbers that C keeps, in place.
-use boundary_core::Answer;
 use boundary_core::Core;
-use boundary_core::Outcome;
 use boundary_places::NUMBERS;
 use boundary_reading::phase_in;
-ghost use Rattle.laws.specs.Usual.{_≡_, _≤_, length};
+ghost use Rattle.laws.specs.Usual.{_≡_, _≤_};
 ghost use Rattle.boundary_places.specs.Places.{coreIn, withOctet, withOctets, withFlag, withPhase, kept};
-
-fn are_eighteen(numbers: &[u32])
-    requires { ⌜ length (now numbers) ≡ 18 ⌝ }
-    ensures { λ _. ⌜ length (now (numbers .entry)) ≡ 18 ⌝ }
-{}
-
-// Nothing is done to the numbers. A proof is told here how many they are.
-pub fn leave(numbers: &[u32; NUMBERS])
-    ensures { λ _. ⌜ length (now (numbers .entry)) ≡ 18 ⌝ }
-{
-    are_eighteen(numbers);
-}
 
 fn with_octet(number: u32, low: u8) -> u32
     ensures { λ r. ⌜ r ≡ withOctet number low ⌝ }
@@ -82,16 +68,4 @@ pub fn keep(numbers: &mut [u32; NUMBERS], core: Core)
     ensures { λ _. ⌜ (core .phase ≤ 4 → coreIn (now (numbers .exit)) ≡ core) ⌝ }
 {
     put(numbers, core);
-}
-
-// Puts the core that a call leaves into the numbers, and hands its answer on.
-pub fn keep_outcome(numbers: &mut [u32; NUMBERS], outcome: Outcome) -> Answer
-    ensures { λ _. ⌜ now (numbers .exit) ≡ kept (now (numbers .entry)) (outcome .core) ⌝ }
-    ensures { λ _. ⌜ (outcome .core .phase ≤ 4 → coreIn (now (numbers .exit)) ≡ outcome .core) ⌝ }
-    ensures { λ r. ⌜ r ≡ outcome .answer ⌝ }
-{
-    let answer = outcome.answer;
-    let after = outcome.core;
-    keep(numbers, after);
-    answer
 }

@@ -1,7 +1,7 @@
 // New, start and stop, on the core in numbers and the list in arrays, both changed in place.
 use boundary_core::Answer;
+use boundary_handing::keep_outcome;
 use boundary_keeping::keep;
-use boundary_keeping::keep_outcome;
 use boundary_reading::core_in;
 use station::Settings;
 ghost use Rattle.laws.specs.Usual.{_≡_, replicate};

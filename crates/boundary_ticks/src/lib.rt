@@ -1,7 +1,7 @@
 // One tick and many, on the core in numbers and the list in arrays, both changed in place.
 use boundary_core::Answer;
+use boundary_handing::keep_outcome;
 use boundary_keeping::keep;
-use boundary_keeping::keep_outcome;
 use boundary_reading::core_in;
 ghost use Rattle.laws.specs.Usual.{_≡_};
 ghost use Rattle.boundary_answers.specs.Numbers.{tickedAnswer};
@@ -26,8 +26,8 @@ pub fn tick(
 {
     let state = core_in(core);
     let time = boundary_watch::watch_time(state, listed, watch);
-    if boundary_counting::counts(state, time) {
-        keep(core, boundary_counting::count(state, time));
+    if boundary_calm::counts(state, time) {
+        keep(core, boundary_calm::count(state, time));
         return boundary_core::done();
     }
     keep_outcome(

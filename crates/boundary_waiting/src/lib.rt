@@ -11,12 +11,12 @@ fn limit(phase: u8, number: u8) -> Ticks
     ensures { λ r. ⌜ r .0 ≡ limitOf phase number ⌝ }
 {
     if phase == boundary_core::LISTENING {
-        return phases::listening_time(number);
+        return waits::listening_time(number);
     }
     if phase == boundary_core::STARTUP {
-        return phases::acceptance_time();
+        return waits::acceptance_time();
     }
-    phases::detection_wait()
+    waits::detection_wait()
 }
 
 fn startup_ends(core: Core) -> bool
@@ -24,9 +24,9 @@ fn startup_ends(core: Core) -> bool
 {
     let number = core.own.number;
     let before = core.elapsed;
-    let time = phases::acceptance_time();
-    let after = phases::later(time, before);
-    (time.0 <= after.0) | ticking::wait_ends(number, before, after)
+    let time = waits::acceptance_time();
+    let after = waits::later(time, before);
+    (time.0 <= after.0) | waits::wait_ends(number, before, after)
 }
 
 fn joining_ends(core: Core) -> bool
@@ -35,13 +35,13 @@ fn joining_ends(core: Core) -> bool
     let number = core.own.number;
     let elapsed = core.elapsed;
     let waited = core.waited;
-    let time = phases::detection_wait();
-    let after = phases::later(time, elapsed);
+    let time = waits::detection_wait();
+    let after = waits::later(time, elapsed);
     (time.0 <= after.0)
-        | ticking::wait_ends(
+        | waits::wait_ends(
             number,
             waited,
-            ticking::waited_then(number, core.rounds, waited),
+            waits::waited_then(number, core.rounds, waited),
         )
 }
 
@@ -60,7 +60,7 @@ fn waited_by(core: Core) -> Ticks
     let number = core.own.number;
     let waited = core.waited;
     if core.phase == boundary_core::JOINING {
-        ticking::waited_then(number, core.rounds, waited)
+        waits::waited_then(number, core.rounds, waited)
     } else {
         waited
     }
@@ -72,7 +72,7 @@ pub fn count(core: Core) -> Core
 {
     let number = core.own.number;
     let before = core.elapsed;
-    let elapsed = phases::later(limit(core.phase, number), before);
+    let elapsed = waits::later(limit(core.phase, number), before);
     let waited = waited_by(core);
     Core {
         elapsed,

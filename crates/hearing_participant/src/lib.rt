@@ -44,7 +44,7 @@ pub fn participant_hears(
     let view = hearing_token::view_heard(station.view, frame);
     let station = phases_participating::restart(
         station,
-        members::clear(members, frame.source),
+        members_misses::clear(members, frame.source),
         view,
         after,
         panel,

@@ -1,9 +1,9 @@
-// The station list: what is known of each other station of the ring. Misses and striking.
+// The station list: what is known of each other station of the ring.
 use area::Areas;
 use area::Part;
 use units::Milliseconds;
 ghost use mathlib.Core.Path.{_≡_};
-ghost use Rattle.members.specs.Members.{nobody, noMembers, entryOf, isListed, withEntry, missesSet, cleared, strikes, missed};
+ghost use Rattle.members.specs.Members.{nobody, noMembers, entryOf, isListed, withEntry};
 
 // An entry, at the place of its station's number. One that is not listed holds nothing else.
 #[repr(C)]
@@ -19,7 +19,7 @@ pub struct Members {
     pub entries: [Entry; 256],
 }
 
-fn unlisted() -> Entry
+pub fn unlisted() -> Entry
     ensures { λ r. ⌜ r ≡ nobody ⌝ }
 {
     let empty = Part {
@@ -65,37 +65,4 @@ pub fn with_entry(members: Members, number: u8, entry: Entry) -> Members
     let mut entries = members.entries;
     entries[number as usize] = entry;
     Members { entries }
-}
-
-fn with_misses(entry: Entry, misses: u8) -> Entry
-    ensures { λ r. ⌜ r ≡ missesSet misses entry ⌝ }
-{
-    Entry { misses, ..entry }
-}
-
-pub fn clear(members: Members, number: u8) -> Members
-    ensures { λ r. ⌜ r ≡ cleared members number ⌝ }
-{
-    let entry = entry_of(members, number);
-    with_entry(members, number, with_misses(entry, 0))
-}
-
-// Whether the next miss of a station is its third in a row.
-pub fn strikes(members: Members, number: u8) -> bool
-    ensures { λ r. ⌜ r ≡ strikes members number ⌝ }
-{
-    2 <= entry_of(members, number).misses
-}
-
-pub fn miss(members: Members, number: u8) -> Members
-    ensures { λ r. ⌜ r ≡ missed members number ⌝ }
-{
-    let entry = entry_of(members, number);
-    if !entry.listed {
-        return members;
-    }
-    if strikes(members, number) {
-        return with_entry(members, number, unlisted());
-    }
-    with_entry(members, number, with_misses(entry, entry.misses + 1))
 }

@@ -99,7 +99,7 @@ fn left(station: Station) -> Gathering
     let members = station.members;
     let gathering = station.gathering;
     let view = station.view;
-    if members::is_listed(members, view) & members::strikes(members, view) {
+    if members::is_listed(members, view) & members_misses::strikes(members, view) {
         phases::without(view, gathering)
     } else {
         gathering
@@ -117,7 +117,7 @@ fn watch_ended(station: Station) -> Station
     let gathering = left(station);
     phases_participating::restart(
         station,
-        members::miss(members, view),
+        members_misses::miss(members, view),
         next,
         gathering,
         panel::tick(panel),

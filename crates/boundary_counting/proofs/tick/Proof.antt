@@ -2,6 +2,7 @@
 use Rattle.laws.specs.Usual.{sym, ap, _∙_}
 use borrow.Author.Tests.{ne-eqb}
 use Rattle.boundary_answers.specs.Numbers.{tickedAnswer}
+use Rattle.boundary_calm.specs.Calm.{counted}
 use Rattle.boundary_core.specs.Crossing.{coreOf}
 use Rattle.boundary_lists.specs.Lists.{membersIn}
 use Rattle.boundary_waiting.specs.Ticks.{stays-off}
@@ -9,7 +10,6 @@ use Rattle.boundary_waiting.specs.Waiting.{isWaiting}
 use Rattle.boundary_watch.specs.Watch.{isQuiet}
 use Rattle.laws.specs.Tests.{neither-first, neither-second}
 use Rattle.station.specs.Rules.Ticking.{Ticking}
-use Rattle.boundary_counting.specs.Counting.{counted}
 use Rattle.boundary_counting.proofs.tick.Statement.{statement}
 use Rattle.boundary_counting.proofs.tick.Tie as tie
 

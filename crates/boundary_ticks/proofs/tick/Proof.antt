@@ -3,7 +3,7 @@ use Rattle.laws.specs.Usual.{sym, _∙_}
 use Rattle.boundary_answers.specs.Numbers.{tickedAnswer}
 use Rattle.boundary_core.specs.Crossing.{stationIn}
 use Rattle.boundary_core.specs.declared.Core.{Core}
-use Rattle.boundary_counting.specs.Counting.{counted}
+use Rattle.boundary_calm.specs.Calm.{counted}
 use Rattle.boundary_lists.specs.Lists.{membersIn}
 use Rattle.boundary_places.specs.Laws.{call-kept}
 use Rattle.station.specs.Rules.Ticking.{Ticking, tickOf}

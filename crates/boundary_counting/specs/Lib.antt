@@ -1,2 +1,0 @@
--- Ticks that only count.
-pub mod Counting
