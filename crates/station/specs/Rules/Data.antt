@@ -39,9 +39,9 @@ pub record Gathered : Type 0 where
   pub memory : List ℕ
   pub outcome : Data
 
--- "the same source, number, length and octets as the last one still gathered (in the assembly buffer as now lent)". The block heard is laid on
--- that buffer at its place. Its length is that of the gathered one: both are a block of this number, cut from the listed areas, and before the
--- last (`repeat-said`).
+-- "the same source, number, length and octets as the last one still gathered (in the assembly buffer as now lent)". The data are compared with what
+-- that buffer has at the block's place. The length needs no test: both are a block of this number of the listed areas, and not the last
+-- (`repeat-long`).
 abbrev pub isRepeat : Gathering → Fields → List ℕ → List ℕ → Bool
 isRepeat gathering frame octets assembly =
     (eqb (gathering .source) (frame .source) && eqb (gathering .blocks) (frame .block))
