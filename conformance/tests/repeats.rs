@@ -36,6 +36,16 @@ fn heard(case: &mut Case, octets: &[u8]) -> u8 {
     hear(case, octets).data
 }
 
+/// The same after blocks 1 and 2 of a turn, with all three of its blocks.
+fn with_two_gathered() -> (Case, [Vec<u8>; 3]) {
+    let mut case = with_2_and_9();
+    let blocks = [1, 2, 3].map(|number| block(&mut case, number));
+    for octets in &blocks[..2] {
+        assert_eq!(heard(&mut case, octets), KEPT);
+    }
+    (case, blocks)
+}
+
 /// What became of the token and of the data, in words.
 fn told(answer: &Answer) -> (&str, &str) {
     let (token, data) = (usize::from(answer.token), usize::from(answer.data));
@@ -89,10 +99,7 @@ fn block_1_with_another_octet_starts_afresh() {
 
 #[test]
 fn a_later_block_with_another_octet_drops_the_turn() {
-    let mut case = with_2_and_9();
-    let [first, second, third] = [1, 2, 3].map(|number| block(&mut case, number));
-    assert_eq!(heard(&mut case, &first), KEPT);
-    assert_eq!(heard(&mut case, &second), KEPT);
+    let (mut case, [_, second, third]) = with_two_gathered();
     let other = with_another_octet(&second);
     assert_eq!(heard(&mut case, &other), DROPPED);
     assert_eq!(heard(&mut case, &third), DROPPED);
@@ -100,30 +107,21 @@ fn a_later_block_with_another_octet_drops_the_turn() {
 
 #[test]
 fn a_block_below_the_last_is_no_repeat() {
-    let mut case = with_2_and_9();
-    let [first, second] = [1, 2].map(|number| block(&mut case, number));
-    assert_eq!(heard(&mut case, &first), KEPT);
-    assert_eq!(heard(&mut case, &second), KEPT);
+    let (mut case, [first, _, _]) = with_two_gathered();
     assert_eq!(heard(&mut case, &first), KEPT);
     assert_eq!(case.both.state().core.blocks(), 1);
 }
 
 #[test]
 fn none_after_a_request_of_its_source() {
-    let mut case = with_2_and_9();
-    let [first, second] = [1, 2].map(|number| block(&mut case, number));
-    assert_eq!(heard(&mut case, &first), KEPT);
-    assert_eq!(heard(&mut case, &second), KEPT);
+    let (mut case, [_, second, _]) = with_two_gathered();
     assert_eq!(case.hear(Frame::request(2, words(TURN))).word, WORD_DONE);
     assert_eq!(heard(&mut case, &second), DROPPED);
 }
 
 #[test]
 fn none_after_a_block_of_another_source() {
-    let mut case = with_2_and_9();
-    let [first, second] = [1, 2].map(|number| block(&mut case, number));
-    assert_eq!(heard(&mut case, &first), KEPT);
-    assert_eq!(heard(&mut case, &second), KEPT);
+    let (mut case, [_, second, _]) = with_two_gathered();
     let nine = Areas::new(Part::new(0, 0), Part::new(4000, 600));
     let another = Frame::cyclic(Code::Cyclic, 9, 2, nine, 1).octets(&mut case.random);
     assert_eq!(heard(&mut case, &another), KEPT);
@@ -167,10 +165,7 @@ fn other_areas_than_the_listed_ones_drop_the_turn() {
 /// What is compared is the buffer as it is lent now, not what was heard.
 #[test]
 fn a_host_that_changes_the_assembly_buffer() {
-    let mut case = with_2_and_9();
-    let [first, second] = [1, 2].map(|number| block(&mut case, number));
-    assert_eq!(heard(&mut case, &first), KEPT);
-    assert_eq!(heard(&mut case, &second), KEPT);
+    let (mut case, [_, second, _]) = with_two_gathered();
     case.both.write(|lent| lent.assembly[2047] ^= 1);
     assert_eq!(heard(&mut case, &second), DROPPED);
 }
@@ -196,10 +191,7 @@ fn a_repeat_restarts_the_watch_and_clears_the_misses() {
 /// one, is a repeat, and the new turn's block 3 joins the old turn's blocks 1 and 2.
 #[test]
 fn blocks_of_two_turns_can_be_joined() {
-    let mut case = with_2_and_9();
-    let [first, second, third] = [1, 2, 3].map(|number| block(&mut case, number));
-    assert_eq!(heard(&mut case, &first), KEPT);
-    assert_eq!(heard(&mut case, &second), KEPT);
+    let (mut case, [first, second, third]) = with_two_gathered();
     // The old turn's block 3 is lost, and so is the new turn's block 1.
     assert_eq!(heard(&mut case, &second), REPEAT);
     assert_eq!(heard(&mut case, &third), WRITTEN);
