@@ -12,12 +12,16 @@ use flnet_conformance::names::*;
 const TURN: u16 = 1100;
 const LAST: usize = 2 * TURN as usize - 2048;
 
+/// The areas of station 9, which sends two blocks.
+fn of_9() -> Areas {
+    Areas::new(Part::new(0, 0), Part::new(4000, 600))
+}
+
 /// Station 5, without areas, participating with stations 2, that sends three blocks, and 9.
 fn with_2_and_9() -> Case {
-    let nine = Areas::new(Part::new(0, 0), Part::new(4000, 600));
     participant(
         settings(5, Areas::default(), 2),
-        &[(2, words(TURN)), (9, nine)],
+        &[(2, words(TURN)), (9, of_9())],
     )
 }
 
@@ -36,7 +40,7 @@ fn heard(case: &mut Case, octets: &[u8]) -> u8 {
     hear(case, octets).data
 }
 
-/// The same after blocks 1 and 2 of a turn, with all three of its blocks.
+/// That station after blocks 1 and 2 of a turn of station 2, and all three of its blocks.
 fn with_two_gathered() -> (Case, [Vec<u8>; 3]) {
     let mut case = with_2_and_9();
     let blocks = [1, 2, 3].map(|number| block(&mut case, number));
@@ -122,8 +126,7 @@ fn none_after_a_request_of_its_source() {
 #[test]
 fn none_after_a_block_of_another_source() {
     let (mut case, [_, second, _]) = with_two_gathered();
-    let nine = Areas::new(Part::new(0, 0), Part::new(4000, 600));
-    let another = Frame::cyclic(Code::Cyclic, 9, 2, nine, 1).octets(&mut case.random);
+    let another = Frame::cyclic(Code::Cyclic, 9, 2, of_9(), 1).octets(&mut case.random);
     assert_eq!(heard(&mut case, &another), KEPT);
     assert_eq!(heard(&mut case, &second), DROPPED);
 }

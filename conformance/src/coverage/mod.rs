@@ -11,7 +11,7 @@ use step::NOTED;
 const CALLS: [&str; 5] = ["start", "stop", "tick", "hear", "ask"];
 /// Kinds of answers: off, done, frame, the refusals by number after it, and from `CYCLIC` on four
 /// data outcomes for each of the five token outcomes.
-const KINDS: usize = CYCLIC + 20;
+const KINDS: usize = CYCLIC + TOKENS.len() * DATA.len();
 const FRAME: usize = 2;
 const CYCLIC: usize = FRAME + 16;
 
