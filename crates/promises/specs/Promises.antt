@@ -56,7 +56,13 @@ use Rattle.settle_print.specs.Joined.{handed, afterFills, printed-whole}
 use Rattle.settle_rest.specs.Rest.{printingOf, isOver}
 use Rattle.settle_rest.specs.Whole.{outputOf}
 use Rattle.settle_run.specs.Run.{isRing, settledOf, Bounded}
+use Rattle.settle_run.specs.Running.{runningOf}
+use Rattle.settle_run.specs.Counted.{runningAfter, RightCounts, counts-run}
 use Rattle.settle_run.specs.Whole.{Whole as WholeRun, settled-run, settled-bounded}
+use Rattle.settle_counts.specs.Counts.{countsOf, carried}
+use Rattle.settle_counts.specs.Kept.{counts-kept}
+use Rattle.settle_counts.specs.Total.{total-different}
+use Rattle.settle_moves.specs.Moves.{viewAfter, moved}
 use Rattle.settling.specs.First.{FirstAgreement}
 use Rattle.settling.specs.Ring.{_∈_, Ascending, Views, Within, Agreed, move, Run}
 use Rattle.settling.specs.Ring as theory
@@ -94,7 +100,8 @@ use Rattle.station.specs.declared.Station.{Station}
 use Rattle.station.specs.declared.Data.the-variants.{Written, Repeat}
 use Rattle.station.specs.declared.Data.the-variants as outcomes
 use Rattle.station.specs.declared.Token.{Token}
-use Rattle.settle_views.specs.Views.{stationsOf}
+use Rattle.settle_views.specs.Views.{stationsOf, viewsOf, differentViews}
+use Rattle.settle_views.specs.Proper.{Proper}
 use Rattle.settle_views.specs.declared.Ring.{Ring}
 use Rattle.frame_writing.specs.Writing.{frameOf, fixed}
 
@@ -458,10 +465,24 @@ settle-run = settled-run
 pub settle-bounds : (ring : Ring) → Bounded (length (stationsOf ring)) (settledOf ring)
 settle-bounds = settled-bounded
 
+-- an event that can come carries the counts of a ring to those of the ring that it leaves,
+pub settle-adjusts : {ring : Ring} → length (ring .views) ≡ 256 → Proper ring → (event : theory.Event) → 0 < length (stationsOf ring)
+    → theory.Legal (stationsOf ring) (viewsOf ring) event → carried (viewAfter (stationsOf ring) event) (countsOf ring) ≡ countsOf (moved ring event)
+settle-adjusts = counts-kept
+
+-- so after each step of the run every number that is held is the count of stations with that view, and the total the count of numbers above 0,
+pub settle-counts : (ring : Ring) → length (ring .views) ≡ 256 → isRing ring ≡ true → 0 < length (stationsOf ring)
+    → (steps : ℕ) → RightCounts (runningAfter steps (runningOf ring))
+settle-counts = counts-run
+
+-- which is the number of different views, in every ring of octets,
+pub settle-total : (ring : Ring) → ((x : ℕ) → viewsOf ring x < 256) → countsOf ring .total ≡ differentViews (stationsOf ring) (viewsOf ring)
+settle-total = total-different
+
 -- what is printed for an input is its first bad line, or the column names, the steps of that run and its totals: a program that fills a buffer of
 -- 35 octets or more and hands on its front until nothing is left to print ends, and hands on just these octets.
 pub settle-prints : (buffer octets : List ℕ) → 35 ≤ length buffer
-    → (fills : ℕ) × (isOver (afterFills fills (length buffer) (printingOf octets)) ≡ true) × (handed fills buffer (printingOf octets) ≡ outputOf octets)
+    → (fills : ℕ) × (isOver (afterFills fills (length buffer) (printingOf octets) .stage) ≡ true) × (handed fills buffer (printingOf octets) ≡ outputOf octets)
 settle-prints = printed-whole
 
 -- `decode`: a line of a capture that came octet by octet, of any length, into a buffer of 1121 octets or more, is answered as the whole line.

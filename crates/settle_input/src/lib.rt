@@ -155,7 +155,7 @@ pub fn read_ring(input: &[u8]) -> Reading
         return bad_line(forms.bad);
     }
     let ring = forms.ring;
-    let unlisted = settle_agreement::first_unlisted(ring);
+    let unlisted = settle_views::first_unlisted(ring);
     if unlisted != 0 {
         return bad_line(unlisted);
     }

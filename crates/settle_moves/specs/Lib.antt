@@ -3,4 +3,6 @@ pub mod Moves
 -- Theorems.
 pub mod Loops
 pub mod Found
+pub mod Each
+pub mod Silent
 pub mod Moved

@@ -1,7 +1,8 @@
 -- What an event does to the ring that `settle` works on. Words in quotes are paper 01's.
 use Rattle.laws.specs.Usual.{cond, List, [], _∷_, map, ℕ, suc, min, eqb}
-use Rattle.settling.specs.Ring.{Event, move}
-use Rattle.settle_views.specs.Views.{stationsOf}
+use Prim.Native.Nat.{zero}
+use Rattle.settling.specs.Ring.{Event, silence, move}
+use Rattle.settle_views.specs.Views.{ringOf, stationsOf}
 use Rattle.settle_views.specs.declared.Ring.{Ring}
 
 -- the first listed station among views that start at the station `number`, or `otherwise` where there is none
@@ -21,3 +22,12 @@ viewAfter ns event view = cond (eqb view 0) 0 (move ns (λ station. view) event 
 -- the ring after an event
 abbrev pub moved : Ring → Event → Ring
 moved ring event = record { views = map (viewAfter (stationsOf ring) event) (ring .views) }
+
+-- what a function gives for each of so many numbers from one on
+unfoldable pub each : (ℕ → ℕ) → ℕ → ℕ → List ℕ
+each f number zero = []
+each f number (suc count) = f number ∷ each f (suc number) count
+
+-- where each view goes in a silence, in a ring of these views
+abbrev pub movesInSilence : List ℕ → List ℕ
+movesInSilence views = each (viewAfter (stationsOf (ringOf views)) silence) 0 256

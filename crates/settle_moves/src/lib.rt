@@ -1,30 +1,29 @@
-// What a pass and a silence do to a ring of token views.
-use settle_views::Ring;
-ghost use Rattle.laws.specs.Usual.{_≡_, drop};
-ghost use Rattle.settling.specs.Ring.{next, pass, silence};
-ghost use Rattle.settle_views.specs.Views.{stationsOf, viewsOf};
-ghost use Rattle.settle_moves.specs.Moves.{firstListed, passedView, viewAfter, moved};
+// What a pass and a silence do to the views of a ring, in place.
+ghost use Rattle.laws.specs.Usual.{_≡_, cond, _≤_, map, length, drop, ltb};
+ghost use Rattle.settling.specs.Ring.{next, silence};
+ghost use Rattle.settle_views.specs.Views.{ringOf, stationsOf};
+ghost use Rattle.settle_moves.specs.Moves.{firstListed, passedView, moved, movesInSilence};
 
 // The first listed number that is not below `from`.
-fn first_listed(ring: Ring, from: usize, otherwise: u8) -> u8
-    ensures { λ r. ⌜ r ≡ firstListed from (drop from (ring .views)) otherwise ⌝ }
+fn first_listed(views: &[u8], from: usize, otherwise: usize) -> usize
+    requires { ⌜ length (now views) ≤ 256 ⌝ }
+    ensures { λ r. ⌜ r ≡ firstListed from (drop from (now (views .entry))) otherwise ⌝ }
 {
-    let views = ring.views;
     let mut number = from;
-    while number < 256 {
+    while number < views.len() {
         if views[number] != 0 {
-            return number as u8;
+            return number;
         }
         number += 1;
     }
     otherwise
 }
 
-pub fn next_after(ring: Ring, number: u8) -> u8
-    ensures { λ r. ⌜ r ≡ next (stationsOf ring) number ⌝ }
+pub fn next_after(views: &[u8; 256], number: u8) -> u8
+    ensures { λ r. ⌜ r ≡ next (stationsOf (ringOf (now (views .entry)))) number ⌝ }
 {
-    let smallest = first_listed(ring, 0, number);
-    first_listed(ring, number as usize + 1, smallest)
+    let smallest = first_listed(views, 0, number as usize);
+    first_listed(views, number as usize + 1, smallest) as u8
 }
 
 // The view of a listed station after a token frame from one station to the next.
@@ -40,37 +39,58 @@ fn passed_view(view: u8, from: u8, to: u8) -> u8
     if view < to { view } else { to }
 }
 
-pub fn pass_from(ring: Ring, from: u8) -> Ring
-    ensures { λ r. ⌜ r ≡ moved ring (pass from) ⌝ }
+pub fn pass_views(views: &mut [u8], from: u8, to: u8)
+    ensures { λ _. ⌜ now (views .exit) ≡ map (λ view. passedView view from to) (now (views .entry)) ⌝ }
 {
-    let to = next_after(ring, from);
-    let old = ring.views;
-    let mut views = ring.views;
     let mut station: usize = 0;
-    while station < 256 {
-        views[station] = passed_view(old[station], from, to);
+    while station < views.len() {
+        views[station] = passed_view(views[station], from, to);
         station += 1;
     }
-    Ring { views }
 }
 
-fn silent_view(ring: Ring, station: u8) -> u8
-    ensures { λ r. ⌜ r ≡ viewAfter (stationsOf ring) silence (viewsOf ring station) ⌝ }
+// Where a view goes in a silence: to the first listed number above it, or to itself where no number is listed.
+fn placed(above: usize, view: usize) -> u8
+    requires { ⌜ view ≤ 255 ⌝ }
+    ensures { λ r. ⌜ r ≡ cond (ltb above 256) above view ⌝ }
 {
-    let views = ring.views;
-    let view = views[station as usize];
-    let next = next_after(ring, view);
-    if view == 0 { view } else { next }
+    if above < 256 { above as u8 } else { view as u8 }
 }
 
-pub fn silence_in(ring: Ring) -> Ring
-    ensures { λ r. ⌜ r ≡ moved ring silence ⌝ }
+// Where each view goes in a silence, found from the largest to the smallest.
+fn silence_moves(views: &[u8; 256]) -> [u8; 256]
+    ensures { λ r. ⌜ r ≡ movesInSilence (now (views .entry)) ⌝ }
 {
-    let mut views = ring.views;
-    let mut number: usize = 0;
-    while number < 256 {
-        views[number] = silent_view(ring, number as u8);
-        number += 1;
+    let mut moves = [0u8; 256];
+    let mut above = first_listed(views, 0, 256);
+    let mut view: usize = 256;
+    while 1 < view {
+        view -= 1;
+        moves[view] = placed(above, view);
+        if views[view] != 0 {
+            above = view;
+        }
     }
-    Ring { views }
+    moves
+}
+
+fn move_views(views: &mut [u8], moves: &[u8; 256])
+    requires { ⌜ now moves ≡ movesInSilence (now views) ⌝ }
+    ensures { λ _. ⌜ ringOf (now (views .exit)) ≡ moved (ringOf (now (views .entry))) silence ⌝ }
+{
+    let mut station: usize = 0;
+    while station < views.len() {
+        views[station] = moves[views[station] as usize];
+        station += 1;
+    }
+}
+
+// A silence, and where each view goes in it. The next of every view is found once, and not again for each station.
+pub fn silence_views(views: &mut [u8; 256]) -> [u8; 256]
+    ensures { λ r. ⌜ r ≡ movesInSilence (now (views .entry)) ⌝ }
+    ensures { λ _. ⌜ ringOf (now (views .exit)) ≡ moved (ringOf (now (views .entry))) silence ⌝ }
+{
+    let moves = silence_moves(views);
+    move_views(views, &moves);
+    moves
 }

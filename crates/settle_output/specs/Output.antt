@@ -2,7 +2,6 @@
 use Rattle.laws.specs.Usual.{cond, List, [], _∷_, ℕ, length, ltb}
 use Rattle.copying.specs.Pasted.{pasted}
 use Rattle.text.specs.Lines.{lineOf}
-use Rattle.settle_views.specs.Views.{stationsOf, viewsOf, differentViews}
 use Rattle.settle_run.specs.Run.{letterOf}
 use Rattle.settle_run.specs.declared.Settled.{Settled}
 use Rattle.settle_run.specs.declared.Stepped.{Stepped}
@@ -26,9 +25,7 @@ headerLine =
 
 -- "The fields: kind, from, to (both 0 for S), number of different views afterwards."
 abbrev pub stepLine : Stepped → List ℕ
-stepLine stepped =
-    lineOf (letterOf (stepped .kind) ∷ [])
-    (stepped .from ∷ stepped .to ∷ differentViews (stationsOf (stepped .ring)) (viewsOf (stepped .ring)) ∷ [])
+stepLine stepped = lineOf (letterOf (stepped .kind) ∷ []) (stepped .from ∷ stepped .to ∷ stepped .views ∷ [])
 
 -- "E: passes, silences, views."
 abbrev pub settledLine : Settled → List ℕ

@@ -3,7 +3,6 @@ use Rattle.laws.specs.Usual.{List, [], _∷_, _++_, ℕ, _+_, _*_, _≤_, arith
 use lib.ListN.{length-append}
 use Rattle.text.specs.Lines.{lineFeed, numbersOf, lineOf}
 use Rattle.text.specs.LineLaws.{numbers-length}
-use Rattle.settle_views.specs.Views.{stationsOf, viewsOf, differentViews}
 use Rattle.settle_run.specs.Run.{letterOf}
 use Rattle.settle_run.specs.declared.Settled.{Settled}
 use Rattle.settle_run.specs.declared.Stepped.{Stepped}
@@ -22,10 +21,7 @@ pub header-fits : Fits headerLine
 header-fits = (omega arith, omega arith)
 
 pub step-fits : (stepped : Stepped) → Fits (stepLine stepped)
-step-fits stepped =
-    line-fits (letterOf (stepped .kind) ∷ [])
-    (stepped .from ∷ stepped .to ∷ differentViews (stationsOf (stepped .ring)) (viewsOf (stepped .ring)) ∷ [])
-    (omega arith)
+step-fits stepped = line-fits (letterOf (stepped .kind) ∷ []) (stepped .from ∷ stepped .to ∷ stepped .views ∷ []) (omega arith)
 
 pub settled-fits : (settled : Settled) → Fits (settledLine settled)
 settled-fits settled = line-fits (0x45 ∷ []) (settled .passes ∷ settled .silences ∷ settled .views ∷ []) (omega arith)

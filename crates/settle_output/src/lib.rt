@@ -41,13 +41,8 @@ pub fn put_step(stepped: Stepped, output: &mut [u8]) -> usize
     ensures { λ _. ⌜ now (output .exit) ≡ writtenTo (now (output .entry)) (stepLine stepped) ⌝ }
 {
     let kind = stepped.kind;
-    let ring = stepped.ring;
     let word = [letter(kind)];
-    let numbers = [
-        stepped.from as u32,
-        stepped.to as u32,
-        settle_agreement::different_views(ring),
-    ];
+    let numbers = [stepped.from as u32, stepped.to as u32, stepped.views];
     put_in(&word, &numbers, output)
 }
 

@@ -9,7 +9,7 @@ use Rattle.settle_rest.specs.Rest.{restOf, isOver, printingOf}
 use Rattle.settle_rest.specs.Whole.{outputOf}
 use Rattle.settle_rest.specs.declared.Printing.{Printing}
 use Rattle.settle_print.specs.Parts.{linesLeft, filledOf, partOf, bufferAfter}
-use Rattle.settle_print.specs.Lines.{lines-over, none-left, rest-over}
+use Rattle.settle_print.specs.Lines.{none-over, none-left, rest-over}
 use Rattle.settle_print.specs.Filling.{filled, fill-no-more, fill-less}
 
 module _ (size : ℕ) (p : Printing) where
@@ -56,7 +56,7 @@ handed-joined (suc fills) buffer p =
     ∙ part-joined size p
 
 -- Once nothing is left to print, all that was handed on is the output of the input, octet by octet.
-pub handed-whole : (fills : ℕ) (buffer octets : List ℕ) → isOver (afterFills fills (length buffer) (printingOf octets)) ≡ true
+pub handed-whole : (fills : ℕ) (buffer octets : List ℕ) → isOver (afterFills fills (length buffer) (printingOf octets) .stage) ≡ true
     → handed fills buffer (printingOf octets) ≡ outputOf octets
 handed-whole fills buffer octets over =
     let all = handed fills buffer (printingOf octets) in
@@ -66,18 +66,18 @@ handed-whole fills buffer octets over =
     ∙ begun octets
 
 -- And it comes to that: with room for a line, each fill leaves fewer lines (`fill-less`).
-pub handed-ends : (fills size : ℕ) (p : Printing) → room ≤ size → linesLeft p ≤ fills → isOver (afterFills fills size p) ≡ true
+pub handed-ends : (fills size : ℕ) (p : Printing) → room ≤ size → linesLeft p ≤ fills → isOver (afterFills fills size p .stage) ≡ true
 unfolding afterFills
 handed-ends zero size p enough few = none-left p (omega arith)
-handed-ends (suc fills) size p enough few = handed-ends fills size (filledOf size p .printing) enough (by (isOver p) refl)
+handed-ends (suc fills) size p enough few = handed-ends fills size (filledOf size p .printing) enough (by (isOver (p .stage)) refl)
   where
-    by : (t : Bool) → isOver p ≡ t → linesLeft (filledOf size p .printing) ≤ fills
-    by true e = omega (arith, lines-over p e, fill-no-more size p)
+    by : (t : Bool) → isOver (p .stage) ≡ t → linesLeft (filledOf size p .printing) ≤ fills
+    by true e = omega (arith, none-over p e, fill-no-more size p)
     by false e = omega (arith, fill-less size p enough e)
 
 -- So a program that fills a buffer of 35 octets or more and hands on its front until nothing is left to print ends, and hands on the output.
 pub printed-whole : (buffer octets : List ℕ) → room ≤ length buffer
-    → (fills : ℕ) × (isOver (afterFills fills (length buffer) (printingOf octets)) ≡ true) × (handed fills buffer (printingOf octets) ≡ outputOf octets)
+    → (fills : ℕ) × (isOver (afterFills fills (length buffer) (printingOf octets) .stage) ≡ true) × (handed fills buffer (printingOf octets) ≡ outputOf octets)
 printed-whole buffer octets enough =
     let fills = linesLeft (printingOf octets) in
     let over = handed-ends fills (length buffer) (printingOf octets) enough (omega arith) in

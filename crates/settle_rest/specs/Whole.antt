@@ -3,7 +3,8 @@ use Rattle.laws.specs.Usual.{_≡_, refl, List, [], _∷_, _++_, ℕ, suc, _+_}
 use Prim.Native.Nat.{zero}
 use Rattle.text.specs.Decimal.{decimalAt}
 use Rattle.settle_views.specs.declared.Ring.{Ring}
-use Rattle.settle_run.specs.Run.{runFrom, steppedOf, settledOf}
+use Rattle.settle_moves.specs.Moves.{moved}
+use Rattle.settle_run.specs.Run.{eventIn, steppedOf, runFrom, settledOf}
 use Rattle.settle_input.specs.Input.{linesOf, entryOf, formsFrom, readOf}
 use Rattle.settle_input.specs.declared.Verdict.{Verdict}
 use Rattle.settle_input.specs.declared.Verdict.the-variants as verdicts
@@ -12,7 +13,7 @@ use Rattle.settle_output.specs.Output.{headerLine, stepLine, settledLine, badLi
 -- the lines of so many steps, each from the ring that the one before it leaves
 unfoldable pub stepLines : ℕ → Ring → List ℕ
 stepLines zero ring = []
-stepLines (suc steps) ring = stepLine (steppedOf ring) ++ stepLines steps (steppedOf ring .ring)
+stepLines (suc steps) ring = stepLine (steppedOf ring) ++ stepLines steps (moved ring (eventIn ring))
 
 -- the column names, the steps of the run, and its totals
 abbrev pub runLines : Ring → List ℕ

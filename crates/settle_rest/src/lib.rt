@@ -1,9 +1,10 @@
 // What `settle` has still to print.
 use settle_input::Verdict;
-use settle_run::Settled;
+use settle_run::Running;
 use settle_views::Ring;
-ghost use mathlib.Core.Path.{_≡_};
-ghost use Rattle.settle_rest.specs.Rest.{stageOf, printingOf, isOver, ringAfter, shortened};
+ghost use Rattle.laws.specs.Usual.{_≡_, _-_};
+ghost use Rattle.settle_rest.specs.Rest.{stageOf, printingOf, isOver, shortened};
+ghost use Rattle.settle_run.specs.Counted.{runningAfter};
 
 // What comes next: `bad,` and a line's number, the column names, the run, or nothing.
 pub enum Stage {
@@ -13,12 +14,10 @@ pub enum Stage {
     Over,
 }
 
-// What is still to be printed: in a run so many steps from this ring on, then the totals.
+// What is still to be printed: in a run the steps that it still makes, then the totals.
 pub struct Printing {
     pub stage: Stage,
-    pub ring: Ring,
-    pub left: u64,
-    pub settled: Settled,
+    pub running: Running,
 }
 
 fn stage_of(verdict: Verdict) -> Stage
@@ -38,19 +37,13 @@ pub fn begin(input: &[u8]) -> Printing
     let verdict = reading.verdict;
     let stage = stage_of(verdict);
     let ring = reading.ring;
-    let settled = settle_run::settle(ring);
-    Printing {
-        stage,
-        ring,
-        left: settled.passes as u64 + settled.silences as u64,
-        settled,
-    }
+    let running = settle_run::begin(ring);
+    Printing { stage, running }
 }
 
-pub fn is_over(printing: Printing) -> bool
-    ensures { λ r. ⌜ r ≡ isOver printing ⌝ }
+pub fn is_over(stage: Stage) -> bool
+    ensures { λ r. ⌜ r ≡ isOver stage ⌝ }
 {
-    let stage = printing.stage;
     match stage {
         Stage::Bad(_) => false,
         Stage::Header => false,
@@ -59,33 +52,51 @@ pub fn is_over(printing: Printing) -> bool
     }
 }
 
-fn ring_after(ring: Ring, steps: u64) -> Ring
-    ensures { λ r. ⌜ r ≡ ringAfter steps ring ⌝ }
+fn one_less(left: u32) -> u32
+    ensures { λ r. ⌜ r ≡ left - 1 ⌝ }
 {
-    let mut now = ring;
-    let mut left = steps;
-    while 0 < left {
-        let stepped = settle_run::step(now);
-        let moved = stepped.ring;
-        now = moved;
-        left -= 1;
+    if 0 < left { left - 1 } else { 0 }
+}
+
+// A run after so many steps.
+fn skip(running: Running, steps: u64) -> Running
+    ensures { λ r. ⌜ r ≡ runningAfter steps running ⌝ }
+{
+    let ring = running.ring;
+    let mut views = ring.views;
+    let mut numbers = running.numbers;
+    let mut settled = running.settled;
+    let mut left = running.left;
+    let mut more = steps;
+    while 0 < more {
+        let stepped = settle_run::step(&mut views, &mut numbers);
+        settled = settle_run::add(settled, stepped);
+        left = one_less(left);
+        more -= 1;
     }
-    now
+    let ring = Ring { views };
+    Running {
+        ring,
+        numbers,
+        settled,
+        left,
+    }
 }
 
 // The same with only the last steps of its run, at most so many.
 pub fn shorten(printing: Printing, shown: u64) -> Printing
     ensures { λ r. ⌜ r ≡ shortened shown printing ⌝ }
 {
-    let left = printing.left;
-    if left <= shown {
+    let running = printing.running;
+    let ring = running.ring;
+    let settled = settle_run::settle(ring);
+    let steps = settled.passes as u64 + settled.silences as u64;
+    if steps <= shown {
         return printing;
     }
-    let first = printing.ring;
-    let ring = ring_after(first, left - shown);
+    let running = skip(running, steps - shown);
     Printing {
-        ring,
-        left: shown,
+        running,
         ..printing
     }
 }

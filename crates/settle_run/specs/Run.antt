@@ -1,5 +1,5 @@
 -- The run that `settle` makes. Words in quotes are paper 01's, section "settle".
-use Rattle.laws.specs.Usual.{_≡_, Bool, cond, _&&_, _||_, List, [], _∷_, ℕ, suc, _+_, _-_, _*_, _≤_, length, eqb, leb}
+use Rattle.laws.specs.Usual.{_≡_, Bool, cond, _&&_, List, [], _∷_, ℕ, suc, _+_, _-_, _*_, _≤_, length, eqb, leb}
 use Prim.Native.Nat.{zero}
 use Rattle.settling.specs.Steps.{afterAll}
 use Rattle.settling.specs.Ring.{next, Event, pass, silence, passes, silences}
@@ -18,13 +18,14 @@ passBy holder = cond (eqb holder 0) silence (pass holder)
 abbrev pub eventIn : Ring → Event
 eventIn ring = passBy (smallestHolder (stationsOf ring) (viewsOf ring))
 
--- "The fields: kind, from, to (both 0 for S)", and the ring afterwards
-abbrev pub steppedBy : Ring → Event → Stepped
-steppedBy ring (pass from) = record { kind = Pass; from = from; to = next (stationsOf ring) from; ring = moved ring (pass from) }
-steppedBy ring silence = record { kind = Silence; from = 0; to = 0; ring = moved ring silence }
+-- "The fields: kind, from, to (both 0 for S), number of different views afterwards."
+abbrev pub steppedBy : Ring → ℕ → Event → Stepped
+steppedBy ring views (pass from) = record { kind = Pass; from = from; to = next (stationsOf ring) from; views = views }
+steppedBy ring views silence = record { kind = Silence; from = 0; to = 0; views = views }
 
 abbrev pub steppedOf : Ring → Stepped
-steppedOf ring = steppedBy ring (eventIn ring)
+steppedOf ring =
+    steppedBy ring (differentViews (stationsOf (moved ring (eventIn ring))) (viewsOf (moved ring (eventIn ring)))) (eventIn ring)
 
 -- the letter of the kind
 abbrev pub letterOf : Kind → ℕ
@@ -39,10 +40,6 @@ agreedIn ring = leb (differentViews (stationsOf ring) (viewsOf ring)) 1
 unfoldable pub runFrom : ℕ → Ring → List Event
 runFrom zero ring = []
 runFrom (suc left) ring = cond (agreedIn ring) [] (eventIn ring ∷ runFrom left (moved ring (eventIn ring)))
-
--- it has ended
-abbrev pub over : Ring → ℕ → Bool
-over ring left = eqb left 0 || agreedIn ring
 
 -- "every view a listed station", and no station 0: what an input can give. Any other value makes no step.
 abbrev pub isRing : Ring → Bool

@@ -35,12 +35,12 @@ record Made (left : ℕ) (ring : Ring) (events : List Event) : Type 0 where
   pub stations : stationsOf (afterAll moved ring events) ≡ stationsOf ring
   pub views : Same (stationsOf ring) (viewsOf (afterAll moved ring events)) (viewsAfter (stationsOf ring) (viewsOf ring) events)
 
-differs : (ring : Ring) → agreedIn ring ≡ false → ¬ Agreed (stationsOf ring) (viewsOf ring)
+pub differs : (ring : Ring) → agreedIn ring ≡ false → ¬ Agreed (stationsOf ring) (viewsOf ring)
 differs ring e a =
     omega (arith, leb-false (differentViews (stationsOf ring) (viewsOf ring)) 1 e, agreed-one (stationsOf ring) (viewsOf ring) a)
 
 -- where views differ there is a station
-some-station : (ns : List ℕ) (views : Views) → ¬ Agreed ns views → 0 < length ns
+pub some-station : (ns : List ℕ) (views : Views) → ¬ Agreed ns views → 0 < length ns
 some-station [] views n = absurd (n (λ x y m. elim m [ ]))
 some-station (x ∷ ns) views n = omega arith
 
@@ -106,7 +106,7 @@ pub record Whole (ring : Ring) : Type 0 where
   pub stations : stationsOf (afterAll moved ring (runOf ring)) ≡ stationsOf ring
   pub views : Same (stationsOf ring) (viewsOf (afterAll moved ring (runOf ring))) (viewsAfter (stationsOf ring) (viewsOf ring) (runOf ring))
 
-steps : (events : List Event) → length events ≡ passes events + silences events
+pub steps : (events : List Event) → length events ≡ passes events + silences events
 steps [] = refl
 steps (pass x ∷ events) = omega (arith, steps events)
 steps (silence ∷ events) = omega (arith, steps events)
@@ -117,7 +117,7 @@ square-more zero = omega arith
 square-more (suc zero) = omega arith
 square-more (suc (suc n)) = omega (arith, suc-mul (suc n) (suc (suc n)), suc-mul n (suc (suc n)), mul-suc n (suc n), mul-suc n n)
 
-proper-ring : (ring : Ring) → isRing ring ≡ true → Proper ring
+pub proper-ring : (ring : Ring) → isRing ring ≡ true → Proper ring
 proper-ring ring e =
     proper ring (eqb-true _ _ (first (eqb (unlistedIn ring) 0) (eqb (viewsOf ring 0) 0) e))
     (eqb-true _ _ (second (eqb (unlistedIn ring) 0) (eqb (viewsOf ring 0) 0) e))

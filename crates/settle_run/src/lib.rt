@@ -1,8 +1,10 @@
 // The run that `settle` makes: one step of it, and the whole with both counts.
 use settle_views::Ring;
 ghost use Rattle.laws.specs.Usual.{_≡_, length};
-ghost use Rattle.settle_views.specs.Views.{stationsOf};
-ghost use Rattle.settle_run.specs.Run.{steppedOf, isRing, limitOf, over, settledOf, Bounded};
+ghost use Rattle.settle_moves.specs.Moves.{moved};
+ghost use Rattle.settle_views.specs.Views.{ringOf, stationsOf};
+ghost use Rattle.settle_run.specs.Run.{eventIn, isRing, limitOf, settledOf, Bounded};
+ghost use Rattle.settle_run.specs.Running.{numbersAfter, steppedWith, oneMore, added, runningOf, hasEnded};
 
 // What a step is, by the letter of its output line.
 pub enum Kind {
@@ -10,48 +12,59 @@ pub enum Kind {
     Silence,
 }
 
-// A step: from which station to which the token was passed (both 0 in a silence), and the ring afterwards.
+// A step: from which station to which the token was passed (both 0 in a silence), and the number of different views afterwards.
 pub struct Stepped {
     pub kind: Kind,
     pub from: u8,
     pub to: u8,
-    pub ring: Ring,
+    pub views: u32,
 }
 
-// The steps of a whole run, and the number of different views after it.
+// The steps of a run so far, and the number of different views after them. At the end of a run they are its totals.
 pub struct Settled {
     pub passes: u32,
     pub silences: u32,
     pub views: u32,
 }
 
-pub fn step(ring: Ring) -> Stepped
-    ensures { λ r. ⌜ r ≡ steppedOf ring ⌝ }
+// A run on its way: the ring, how many stations have each view, the steps so far, and how many more the run is given.
+pub struct Running {
+    pub ring: Ring,
+    pub numbers: [u16; 256],
+    pub settled: Settled,
+    pub left: u32,
+}
+
+// One step, made in place.
+pub fn step(views: &mut [u8; 256], numbers: &mut [u16; 256]) -> Stepped
+    ensures { λ r. ⌜ r ≡ steppedWith (ringOf (now (views .entry))) (now (numbers .entry)) ⌝ }
+    ensures { λ _. ⌜ ringOf (now (views .exit)) ≡ moved (ringOf (now (views .entry))) (eventIn (ringOf (now (views .entry)))) ⌝ }
+    ensures { λ _. ⌜ now (numbers .exit) ≡ numbersAfter (ringOf (now (views .entry))) (now (numbers .entry)) ⌝ }
 {
-    let holder = settle_views::smallest_holder(ring);
+    let holder = settle_views::smallest_holder(views);
     if holder == 0 {
-        let moved = settle_moves::silence_in(ring);
+        let moves = settle_moves::silence_views(views);
         return Stepped {
             kind: Kind::Silence,
             from: 0,
             to: 0,
-            ring: moved,
+            views: settle_counts::silence_counts(numbers, &moves),
         };
     }
-    let to = settle_moves::next_after(ring, holder);
-    let moved = settle_moves::pass_from(ring, holder);
+    let to = settle_moves::next_after(views, holder);
+    settle_moves::pass_views(views, holder, to);
     Stepped {
         kind: Kind::Pass,
         from: holder,
         to,
-        ring: moved,
+        views: settle_counts::pass_counts(numbers, holder, to),
     }
 }
 
 fn is_ring(ring: Ring) -> bool
     ensures { λ r. ⌜ r ≡ isRing ring ⌝ }
 {
-    (settle_agreement::first_unlisted(ring) == 0) & (ring.views[0] == 0)
+    (settle_views::first_unlisted(ring) == 0) & (ring.views[0] == 0)
 }
 
 // How many steps a run is given.
@@ -62,34 +75,69 @@ fn limit(ring: Ring) -> u32
     if is_ring(ring) { count * count } else { 0 }
 }
 
-fn is_over(ring: Ring, left: u32) -> bool
-    ensures { λ r. ⌜ r ≡ over ring left ⌝ }
+// The run of a ring, before its first step.
+pub fn begin(ring: Ring) -> Running
+    ensures { λ r. ⌜ r ≡ runningOf ring ⌝ }
 {
-    (left == 0) | (settle_agreement::different_views(ring) <= 1)
+    let counts = settle_counts::count(ring);
+    let numbers = counts.numbers;
+    let left = limit(ring);
+    Running {
+        ring,
+        numbers,
+        settled: Settled {
+            passes: 0,
+            silences: 0,
+            views: counts.total,
+        },
+        left,
+    }
+}
+
+fn one_more(steps: u32) -> u32
+    ensures { λ r. ⌜ r ≡ oneMore steps ⌝ }
+{
+    if steps < 4294967295 { steps + 1 } else { steps }
+}
+
+// The steps so far, with one more.
+pub fn add(settled: Settled, stepped: Stepped) -> Settled
+    ensures { λ r. ⌜ r ≡ added settled stepped ⌝ }
+{
+    let kind = stepped.kind;
+    match kind {
+        Kind::Pass => Settled {
+            passes: one_more(settled.passes),
+            silences: settled.silences,
+            views: stepped.views,
+        },
+        Kind::Silence => Settled {
+            passes: settled.passes,
+            silences: one_more(settled.silences),
+            views: stepped.views,
+        },
+    }
+}
+
+pub fn has_ended(settled: Settled, left: u32) -> bool
+    ensures { λ r. ⌜ r ≡ hasEnded settled left ⌝ }
+{
+    (left == 0) | (settled.views <= 1)
 }
 
 pub fn settle(ring: Ring) -> Settled
     ensures { λ r. ⌜ r ≡ settledOf ring ⌝ }
     ensures { λ r. ⌜ Bounded (length (stationsOf ring)) r ⌝ }
 {
-    let mut now = ring;
-    let mut passes: u32 = 0;
-    let mut silences: u32 = 0;
-    let mut left = limit(ring);
-    while !is_over(now, left) {
-        let stepped = step(now);
-        let kind = stepped.kind;
-        let moved = stepped.ring;
-        now = moved;
+    let running = begin(ring);
+    let mut views = ring.views;
+    let mut numbers = running.numbers;
+    let mut settled = running.settled;
+    let mut left = running.left;
+    while !has_ended(settled, left) {
+        let stepped = step(&mut views, &mut numbers);
+        settled = add(settled, stepped);
         left -= 1;
-        match kind {
-            Kind::Pass => passes += 1,
-            Kind::Silence => silences += 1,
-        }
     }
-    Settled {
-        passes,
-        silences,
-        views: settle_agreement::different_views(now),
-    }
+    settled
 }

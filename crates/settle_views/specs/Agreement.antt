@@ -11,7 +11,7 @@ at-map : (ns : List ℕ) (views : Views) (x : ℕ) → x ∈ ns → views x ∈ 
 at-map (y ∷ ns) views x (List·Memᴰ·head e) = List·Memᴰ·head (ap views e)
 at-map (y ∷ ns) views x (List·Memᴰ·tail m) = List·Memᴰ·tail (at-map ns views x m)
 
-of-map : (ns : List ℕ) (views : Views) (v : ℕ) → v ∈ map views ns → (x : ℕ) × (x ∈ ns) × (v ≡ views x)
+pub of-map : (ns : List ℕ) (views : Views) (v : ℕ) → v ∈ map views ns → (x : ℕ) × (x ∈ ns) × (v ≡ views x)
 of-map [] views v m = elim m [ ]
 of-map (y ∷ ns) views v (List·Memᴰ·head e) = (y, List·Memᴰ·head refl, e)
 of-map (y ∷ ns) views v (List·Memᴰ·tail m) = let (x, k, e) = of-map ns views v m in (x, List·Memᴰ·tail k, e)

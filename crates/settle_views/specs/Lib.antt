@@ -2,7 +2,6 @@
 pub mod Views
 -- Theorems.
 pub mod Loops
-pub mod Different
 pub mod Listed
 pub mod Agreement
 pub mod Proper

@@ -1,5 +1,5 @@
 -- Laws for loops that go over a ring by the numbers of its stations. Assumes nothing.
-use Rattle.laws.specs.Usual.{_≡_, sym, ap, _∙_, List, [], _∷_, ℕ, _+_, _<_, _≤_, length, getD, drop}
+use Rattle.laws.specs.Usual.{_≡_, refl, sym, ap, _∙_, List, [], _∷_, map, ℕ, _+_, _<_, _≤_, arith, length, getD, drop}
 use native.Mathlib.Numerals.{add-one}
 use borrow.Author.Tests.{eq-eqb, ne-eqb}
 use lib.ListN.{drop-of-length-le}
@@ -22,6 +22,20 @@ module _ (views : List ℕ) (i : ℕ) where
       → stationsFrom i (drop i views) ≡ i ∷ stationsFrom (i + 1) (drop (i + 1) views)
   stations-first h n = rw (add-one, drop-cons views i 0, ne-eqb _ _ n)
 
+-- the views of the stations from i on
+abbrev pub viewsFrom : List ℕ → ℕ → List ℕ
+viewsFrom views i = map (λ x. getD views x 0) (stationsFrom i (drop i views))
+
+module _ (views : List ℕ) (i : ℕ) where
+  pub views-end : length views ≤ i → viewsFrom views i ≡ []
+  views-end h = ap (map (λ x. getD views x 0)) (stations-end views i h)
+
+  pub views-skip : i < length views → getD views i 0 ≡ 0 → viewsFrom views i ≡ viewsFrom views (i + 1)
+  views-skip h e = ap (map (λ x. getD views x 0)) (stations-skip views i h e)
+
+  pub views-first : i < length views → ¬ (getD views i 0 ≡ 0) → viewsFrom views i ≡ getD views i 0 ∷ viewsFrom views (i + 1)
+  views-first h n = ap (map (λ x. getD views x 0)) (stations-first views i h n)
+
 -- the laws above, of what is looked up in the views themselves
 module _ (views : List ℕ) (i : ℕ) (h : i < length views) where
   -- a number that is not its own view, or is 0, is no holder
@@ -43,3 +57,9 @@ module _ (views : List ℕ) (i : ℕ) (h : i < length views) where
   holder-first n e =
       ap (λ (ns : List ℕ). smallestHolder ns (λ x. getD views x 0)) (stations-first views i h (λ z. n (sym e ∙ z)))
       ∙ rw (eq-eqb (getD views i 0) i e)
+
+-- number 0 is no holder
+pub holder-from-one : (views : List ℕ)
+    → smallestHolder (stationsFrom 1 (drop 1 views)) (λ x. getD views x 0) ≡ smallestHolder (stationsFrom 0 views) (λ x. getD views x 0)
+holder-from-one [] = refl
+holder-from-one (view ∷ views) = sym (holder-skip (view ∷ views) 0 (omega arith) (λ e. refl))

@@ -1,6 +1,6 @@
 // A ring of token views alone, and what is looked up in it.
 ghost use Rattle.laws.specs.Usual.{_≡_, length};
-ghost use Rattle.settle_views.specs.Views.{stationsOf, viewsOf, smallestHolder};
+ghost use Rattle.settle_views.specs.Views.{ringOf, stationsOf, viewsOf, smallestHolder, unlistedIn};
 
 // The view of each station number, 0 where no such station is listed.
 pub struct Ring {
@@ -24,16 +24,35 @@ pub fn stations(ring: Ring) -> u32
 }
 
 // The smallest station that holds, or 0 if none does.
-pub fn smallest_holder(ring: Ring) -> u8
-    ensures { λ r. ⌜ r ≡ smallestHolder (stationsOf ring) (viewsOf ring) ⌝ }
+pub fn smallest_holder(views: &[u8]) -> u8
+    ensures { λ r. ⌜ r ≡ smallestHolder (stationsOf (ringOf (now (views .entry)))) (viewsOf (ringOf (now (views .entry)))) ⌝ }
 {
-    let views = ring.views;
     let mut number: usize = 1;
-    while number < 256 {
+    while number < views.len() {
         if views[number] as usize == number {
-            return number as u8;
+            return views[number];
         }
         number += 1;
+    }
+    0
+}
+
+// The line, counted from 1 in the order of the stations, of the first station whose view is not listed, or 0 if there is none.
+pub fn first_unlisted(ring: Ring) -> u32
+    ensures { λ r. ⌜ r ≡ unlistedIn ring ⌝ }
+{
+    let views = ring.views;
+    let mut line: u32 = 1;
+    let mut number: usize = 0;
+    while number < 256 {
+        let view = views[number] as usize;
+        number += 1;
+        if view != 0 {
+            if views[view] == 0 {
+                return line;
+            }
+            line += 1;
+        }
     }
     0
 }

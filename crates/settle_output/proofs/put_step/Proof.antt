@@ -1,21 +1,18 @@
 -- `settle_output::put_step` meets its contract.
-use Rattle.laws.specs.Usual.{ap, ap₂, _∙_, [], _∷_, ℕ, needs}
+use Rattle.laws.specs.Usual.{ap, _∙_, [], _∷_, ℕ, needs}
 use Rattle.text.specs.Lines.{lineOf}
 use Rattle.settle_output.specs.Output.{writtenTo, lengthIn}
 use Rattle.settle_output.proofs.put_step.Statement.{statement}
 use Rattle.settle_output.proofs.put_step.Tie as tie
 
 letter-requires : tie.Need-letter-requires
-letter-requires c κs = tt
+letter-requires c κs = search needs
+
+cast-t7 : tie.Need-cast-t7
+cast-t7 c = search needs
 
 cast-t8 : tie.Need-cast-t8
 cast-t8 c = search needs
-
-cast-t9 : tie.Need-cast-t9
-cast-t9 c = search needs
-
-different-views-requires : tie.Need-different-views-requires
-different-views-requires c κs = tt
 
 slice-aggregate-put-in : tie.Need-slice-aggregate-put-in
 slice-aggregate-put-in c = search needs
@@ -31,9 +28,8 @@ same-length c = search needs
 
 returns : tie.Need-returns
 returns c =
-    let a = c .before .before .before .before .before .before .before .before .before .before .before .before .args in
-    let line = ap₂ (λ (letter views : ℕ). lineOf (letter ∷ []) (a .stepped .from ∷ a .stepped .to ∷ views ∷ []))
-    (c .before .before .before .before .before .before .before .before .before .letter .ensures) (c .before .before .before .before .before .before .different-views .ensures) in (
+    let a = c .before .before .before .before .before .before .before .before .before .before .args in
+    let line = ap (λ (letter : ℕ). lineOf (letter ∷ []) (a .stepped .from ∷ a .stepped .to ∷ a .stepped .views ∷ [])) (c .before .before .before .before .before .before .before .before .letter .ensures) in (
       c .before .before .put-in .ensures .0 ∙ ap (lengthIn (a .output .now)) line,
       c .before .before .put-in .ensures .1 ∙ ap (writtenTo (a .output .now)) line,
     )
@@ -43,9 +39,8 @@ put-step-spec =
     tie.close
     (tie.spec
     letter-requires
+    cast-t7
     cast-t8
-    cast-t9
-    different-views-requires
     slice-aggregate-put-in
     slice-aggregate-put-in-2
     put-in-requires

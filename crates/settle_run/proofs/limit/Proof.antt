@@ -1,19 +1,19 @@
 -- `settle_run::limit` meets its contract.
 use Rattle.laws.specs.Usual.{sym, ap, _∙_, ℕ, _*_, arith, needs}
-use Rattle.settle_run.proofs.Counting.{square-most}
+use Rattle.settle_run.specs.Counted.{square-most}
 use Rattle.settle_run.proofs.limit.Statement.{statement}
 use Rattle.settle_run.proofs.limit.Tie as tie
 
 stations-requires : tie.Need-stations-requires
-stations-requires c κs = tt
+stations-requires c κs = search needs
 
 is-ring-requires : tie.Need-is-ring-requires
-is-ring-requires c κs = tt
+is-ring-requires c κs = search needs
 
 mul-result : tie.Need-mul-result
 mul-result c =
     let ring = c .before .before .before .args .ring in
-    omega (arith, square-most ring (search needs), ap (λ (n : ℕ). n * n) (c .before .before .stations .ensures))
+    record { fits = omega (arith, square-most ring (search needs), ap (λ (n : ℕ). n * n) (c .before .before .stations .ensures)) }
 
 returns : tie.Need-returns
 returns c = rw (sym (c .before .is-ring .ensures) ∙ c .if1 .taken) (ap (λ (n : ℕ). n * n) (c .before .before .stations .ensures))

@@ -1,7 +1,7 @@
 -- `settle_views::smallest_holder` meets its contract.
-use Rattle.laws.specs.Usual.{_≡_, refl, sym, ap, _∙_, List, ℕ, _-_, _≤_, arith, length, getD, drop, needs}
+use Rattle.laws.specs.Usual.{_≡_, sym, ap, _∙_, List, ℕ, _-_, _≤_, arith, length, getD, drop, needs}
 use Rattle.settle_views.specs.Views.{stationsFrom, smallestHolder}
-use Rattle.settle_views.specs.Loops.{stations-end, holder-skip, holder-first}
+use Rattle.settle_views.specs.Loops.{stations-end, holder-skip, holder-first, holder-from-one}
 use Rattle.settle_views.proofs.smallest_holder.Statement.{statement}
 use Rattle.settle_views.proofs.smallest_holder.Tie as tie
 
@@ -11,25 +11,26 @@ Inv-loop views number₀ number =
     × (1 ≤ number)
 
 abbrev μ-loop : tie.MeasureT-loop
-μ-loop views number₀ number = 256 - number
+μ-loop views number₀ number = length views - number
 
 loop-holds : tie.Need-loop-holds Inv-loop μ-loop
-loop-holds c = (sym (holder-skip (c .before .args .ring .views) 0 (search needs) (λ e. refl)), omega arith)
+loop-holds c = (holder-from-one (c .args .views .now), omega arith)
 
-array-read-if1 : tie.Need-array-read-if1 Inv-loop μ-loop
-array-read-if1 c = search needs
+shared-slice-read-if1 : tie.Need-shared-slice-read-if1 Inv-loop μ-loop
+shared-slice-read-if1 c = search needs
 
 cast-if1 : tie.Need-cast-if1 Inv-loop μ-loop
-cast-if1 c = search needs
+cast-if1 c = record { fits = omega (arith, c .shared-slice-known .given (c .before .before .loop .number)) }
 
-cast-result : tie.Need-cast-result Inv-loop μ-loop
-cast-result c = search needs
+shared-slice-read-result : tie.Need-shared-slice-read-result Inv-loop μ-loop
+shared-slice-read-result c = search needs
 
 returns : tie.Need-returns Inv-loop μ-loop
 returns c =
-    let views = c .before .before .before .before .args .ring .views in
-    let number = c .before .before .loop .number in
-    sym (holder-first views number (search needs) (λ e. omega arith) (c .if1 .taken)) ∙ c .before .before .loop .inv .0
+    let views = c .before .before .before .before .before .args .views .now in
+    let loop = c .before .before .before .before .loop in
+    let own = c .before .if1 .taken in
+    own ∙ sym (holder-first views (loop .number) (search needs) (λ e. omega arith) own) ∙ loop .inv .0
 
 add-number : tie.Need-add-number Inv-loop μ-loop
 add-number c = search needs
@@ -39,14 +40,13 @@ loop-less c = search needs
 
 loop-again : tie.Need-loop-again Inv-loop μ-loop
 loop-again c =
-    let views = c .before .before .before .before .args .ring .views in
-    let number = c .before .before .loop .number in
-    (sym (holder-skip views number (search needs) (λ e. absurd (c .if1 .left e))) ∙ c .before .before .loop .inv .0, omega arith)
+    let views = c .before .before .before .before .args .views .now in
+    let loop = c .before .before .before .loop in
+    (sym (holder-skip views (loop .number) (search needs) (λ e. absurd (c .if1 .left e))) ∙ loop .inv .0, omega arith)
 
 returns-2 : tie.Need-returns-2 Inv-loop μ-loop
 returns-2 c =
-    let views = c .before .before .before .args .ring .views in
-    let all : length views ≡ 256 = search needs in
+    let views = c .before .before .args .views .now in
     let none = ap (λ (ns : List ℕ). smallestHolder ns (λ x. getD views x 0)) (stations-end views (c .before .loop .number) (omega arith)) in
     sym none ∙ c .before .loop .inv .0
 
@@ -57,9 +57,9 @@ smallest-holder-spec =
     Inv-loop
     μ-loop
     loop-holds
-    array-read-if1
+    shared-slice-read-if1
     cast-if1
-    cast-result
+    shared-slice-read-result
     returns
     add-number
     loop-less

@@ -20,8 +20,8 @@ large-buffer-requires c κs = search needs
 loop-holds : tie.Need-loop-holds Inv-loop μ-loop
 loop-holds c = search needs
 
-is-over-requires : tie.Need-is-over-requires Inv-loop μ-loop
-is-over-requires c κs = tt
+has-more-requires : tie.Need-has-more-requires Inv-loop μ-loop
+has-more-requires c κs = tt
 
 slice-aggregate-fill : tie.Need-slice-aggregate-fill Inv-loop μ-loop
 slice-aggregate-fill c = search needs
@@ -51,7 +51,7 @@ loop-less : tie.Need-loop-less Inv-loop μ-loop
 loop-less c =
     let loop = c .before .before .before .before .before .before .before .before .before .before .loop in
     let left = ap (λ (r : Filled). linesLeft (r .printing)) (c .before .before .before .before .before .before .fill .ensures .0) in
-    let goes : isOver (loop .now) ≡ false = sym (c .before .before .before .before .before .before .before .before .before .is-over .ensures) ∙ not-true _ (c .before .before .before .before .before .before .before .before .if1 .taken) in
+    let goes : isOver (loop .now .stage) ≡ false = not-true _ (sym (c .before .before .before .before .before .before .before .before .before .has-more .ensures) ∙ c .before .before .before .before .before .before .before .before .if1 .taken) in
     omega (arith, left, fill-less (length (loop .buffer)) (loop .now) (omega arith) goes)
 
 loop-again : tie.Need-loop-again Inv-loop μ-loop
@@ -68,7 +68,7 @@ write-rest-spec =
     μ-loop
     large-buffer-requires
     loop-holds
-    is-over-requires
+    has-more-requires
     slice-aggregate-fill
     fill-requires
     sub-write-all
