@@ -1,5 +1,5 @@
-//! The proved station through its C boundary, a plain model of paper 01 to hold it against, and
-//! rings of proved stations.
+//! The proved station through its C boundary, a plain model of paper 01 to hold it against, rings
+//! of proved stations, and a model of the program `settle`.
 
 pub mod both;
 pub mod boundary;
@@ -12,3 +12,4 @@ pub mod model;
 pub mod names;
 pub mod random;
 pub mod ring;
+pub mod settling;

@@ -11,6 +11,7 @@ mod paper;
 mod repeats;
 mod rings;
 mod rules;
+mod settle;
 mod ticks;
 mod uncovered;
 mod watch;

@@ -53,6 +53,9 @@ use Rattle.ring.specs.Events.{Stations, Event, afterEvent, AllName, CanCome}
 use Rattle.frame_round_trip.specs.ReadBack.{Sendable, fields-read, data-read}
 use Rattle.frame_round_trip.specs.WriteBack.{WrittenBack, written-back}
 use Rattle.settle_print.specs.Joined.{handed, afterFills, printed-whole}
+use Rattle.settle_input.specs.Input.{readOf as ringRead}
+use Rattle.settle_input.specs.declared.Verdict.the-variants as verdicts
+use Rattle.settle_rest.specs.Begun.{counts-read}
 use Rattle.settle_rest.specs.Rest.{printingOf, isOver}
 use Rattle.settle_rest.specs.Whole.{outputOf}
 use Rattle.settle_run.specs.Run.{isRing, settledOf, Bounded}
@@ -470,12 +473,16 @@ pub settle-adjusts : {ring : Ring} → length (ring .views) ≡ 256 → Proper r
     → theory.Legal (stationsOf ring) (viewsOf ring) event → carried (viewAfter (stationsOf ring) event) (countsOf ring) ≡ countsOf (moved ring event)
 settle-adjusts = counts-kept
 
--- so after each step of the run every number that is held is the count of stations with that view, and the total the count of numbers above 0,
+-- so after each step of the run every number that is held is the count of stations with that view, and the total the count of numbers above 0;
 pub settle-counts : (ring : Ring) → length (ring .views) ≡ 256 → isRing ring ≡ true → 0 < length (stationsOf ring)
     → (steps : ℕ) → RightCounts (runningAfter steps (runningOf ring))
 settle-counts = counts-run
 
--- which is the number of different views, in every ring of octets,
+-- for every input that gives a ring, of the run that is printed,
+pub settle-counts-read : (octets : List ℕ) → ringRead octets .verdict ≡ verdicts.Ring → (steps : ℕ) → RightCounts (runningAfter steps (printingOf octets .running))
+settle-counts-read = counts-read
+
+-- the total is the number of different views, in every ring of octets,
 pub settle-total : (ring : Ring) → ((x : ℕ) → viewsOf ring x < 256) → countsOf ring .total ≡ differentViews (stationsOf ring) (viewsOf ring)
 settle-total = total-different
 

@@ -9,7 +9,7 @@ use Rattle.settle_counts.specs.Kept.{views-small}
 use Rattle.settle_run.specs.Run.{eventIn, agreedIn, runFrom, isRing, limitOf, runOf}
 use Rattle.settle_run.specs.Running.{runningOf, onward}
 use Rattle.settle_run.specs.Whole.{differs, some-station, proper-ring, steps}
-use Rattle.settle_run.specs.Counted.{Held, held-start, held-agreed, held-onward, held-step, run-ends}
+use Rattle.settle_run.specs.Counted.{Held, runningAfter, RightCounts, counts-run, held-start, held-agreed, held-onward, held-step, run-ends}
 use Rattle.settle_run.specs.declared.Running.{Running}
 use Rattle.settle_run.specs.declared.Settled.{Settled}
 use Rattle.settle_run.specs.declared.Stepped.{Stepped}
@@ -45,12 +45,21 @@ run-printed ring size is =
     (lines-steps (limitOf ring) (runningOf ring) (held-start ring size is) ∙ ap (λ (k : ℕ). stepLines k ring) (steps (runOf ring)))
     (run-ends ring size (views-small size (proper-ring ring is)))
 
+-- a ring that was read is one that is settled
+settled-ring : (octets : List ℕ) → readOf octets .verdict ≡ verdicts.Ring → isRing (readOf octets .ring) ≡ true
+settled-ring octets e = let g = ring-read octets e in rw (eq-eqb _ _ (g .listed), eq-eqb _ _ (g .nobody))
+
+-- and the counts that are held while it is printed are those of its ring, after each step
+pub counts-read : (octets : List ℕ) → readOf octets .verdict ≡ verdicts.Ring → (steps : ℕ) → RightCounts (runningAfter steps (printingOf octets .running))
+unfolding printingOf
+counts-read octets e steps =
+    let g = ring-read octets e in
+    counts-run (readOf octets .ring) (g .size) (settled-ring octets e) (g .some) steps
+
 pub begun : (octets : List ℕ) → restOf (printingOf octets) ≡ outputOf octets
 unfolding restOf printingOf
 begun octets = by (readOf octets .verdict) refl
   where
     by : (verdict : Verdict) → readOf octets .verdict ≡ verdict → restOf (printingFor (stageOf verdict) (readOf octets .ring)) ≡ answerLines verdict (readOf octets .ring)
     by (verdicts.Bad number) e = refl
-    by verdicts.Ring e =
-        let g = ring-read octets e in
-        run-printed (readOf octets .ring) (g .size) (rw (eq-eqb _ _ (g .listed), eq-eqb _ _ (g .nobody)))
+    by verdicts.Ring e = run-printed (readOf octets .ring) (ring-read octets e .size) (settled-ring octets e)
