@@ -14,7 +14,7 @@ pub fn is_due(station: Station) -> bool
         Phase::Listening => falling_due::trigger_due(station),
         Phase::Startup => falling_due::request_fallen(station) & !station.sent,
         Phase::Joining => falling_due::request_fallen(station),
-        Phase::Participating => phases::holds(station)
+        Phase::Participating => state_tests::holds(station)
             & asking_placing::is_placed(own, station.block),
     }
 }

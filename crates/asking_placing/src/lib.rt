@@ -51,7 +51,7 @@ pub fn after_block(own: Settings, view: u8, block: u8, panel: Panel, next: u8) -
 {
     let areas = own.areas;
     let last = is_last(areas, block);
-    let panel = phases::taken_if(last & (next == own.number), panel);
+    let panel = state_parts::taken_if(last & (next == own.number), panel);
     Sent {
         view: either(last, next, view),
         block: either(last, 0, block + 1),

@@ -1,6 +1,6 @@
 -- The numbers lose nothing: each answer can be told from its numbers.
 use Rattle.laws.specs.Usual.{_≡_, refl, ap, cond, ℕ, eqb}
-use Rattle.frame.specs.Refusals.{numberOf}
+use Rattle.frame_refusals.specs.Refusals.{numberOf}
 use Rattle.frame.specs.declared.Refusal.the-variants.{Cut, Mark, Length, Code, Address, Taken, Area, Block, Stranger, NotDue, Buffer, Total, Number}
 use Rattle.station.specs.Rules.Answers.{dataNumber, tokenNumber, dataOf}
 use Rattle.station.specs.declared.Asked.the-variants as asked

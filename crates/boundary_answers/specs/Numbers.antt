@@ -1,6 +1,6 @@
 -- The answers as numbers. Refusals, outcomes and phases have the numbers of paper 01; the words of an answer are numbered here.
 use Rattle.laws.specs.Usual.{ℕ}
-use Rattle.frame.specs.Refusals.{numberOf}
+use Rattle.frame_refusals.specs.Refusals.{numberOf}
 use Rattle.station.specs.Rules.Answers.{dataNumber, tokenNumber, dataOf}
 use Rattle.station.specs.declared.Asked.the-variants as asked
 use Rattle.station.specs.declared.Heard.the-variants as heard

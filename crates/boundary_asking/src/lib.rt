@@ -7,7 +7,7 @@ ghost use Rattle.laws.specs.Usual.{_≡_, true, [], _≤_, length};
 ghost use Rattle.boundary_bare.specs.Bare.{bareFields, afterBare};
 ghost use Rattle.boundary_core.specs.Crossing.{coreOf, stationIn};
 ghost use Rattle.boundary_lists.specs.Lists.{membersIn};
-ghost use Rattle.boundary_participant.specs.Quick.{holdsBlock};
+ghost use Rattle.boundary_holder.specs.Held.{holdsBlock};
 ghost use Rattle.boundary_places.specs.Places.{coreIn, kept};
 ghost use Rattle.boundary_told.specs.Told.{askedTold};
 ghost use Rattle.frame_writing.specs.Writing.{wholeLength, outputOf};
@@ -63,7 +63,7 @@ fn ask_bare(
     let answer = asked.answer;
     let after = asked.core;
     keep(core, after);
-    boundary_told::tell_written(answer, output)
+    boundary_written::tell_written(answer, output)
 }
 
 pub fn ask(
@@ -85,7 +85,7 @@ pub fn ask(
 {
     let lent = asking_placing::is_lent_right(memory, turn, output);
     let state = boundary_reading::core_in(core);
-    if boundary_participant::holds_block(state) & lent {
+    if boundary_holder::holds_block(state) & lent {
         return ask_block(
             core,
             state,
@@ -99,7 +99,7 @@ pub fn ask(
         );
     }
     if !(lent & boundary_due::is_due(state)) {
-        return boundary_core::refused(boundary_due::ask_refusal(lent));
+        return boundary_answers::refused(boundary_due::ask_refusal(lent));
     }
     ask_bare(core, state, listed, areas, watch, misses, output)
 }

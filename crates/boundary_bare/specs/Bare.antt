@@ -5,7 +5,7 @@ use Rattle.asking_bare.specs.Bare.{no-data}
 use Rattle.block.specs.Blocks.{startOf}
 use Rattle.boundary_core.specs.Crossing.{phaseOf, stationOf}
 use Rattle.boundary_core.specs.declared.Core.{Core}
-use Rattle.boundary_participant.specs.Quick.{holdsBlock}
+use Rattle.boundary_holder.specs.Held.{holdsBlock}
 use Rattle.boundary_due.specs.Due.{dueCore}
 use Rattle.boundary_requesting.specs.Requesting.{isRequesting, requestOf, afterRequest, request-asked}
 use Rattle.frame_round_trip.specs.Sent.{triggerFields}

@@ -1,7 +1,7 @@
 // Our frames without data, with the list in its arrays: our request leaves it alone, and our trigger begins ring startup with an empty list.
+use boundary_answers::frame_answer;
 use boundary_core::Core;
 use boundary_core::Outcome;
-use boundary_core::frame_answer;
 use station::Phase;
 ghost use Rattle.laws.specs.Usual.{_≡_, [], _≤_, length};
 ghost use Rattle.boundary_answers.specs.Numbers.{frameAnswer};

@@ -3,11 +3,6 @@ mod phase;
 
 pub use boundary_answers::Answer;
 pub use boundary_answers::Route;
-pub use boundary_answers::done;
-pub use boundary_answers::frame_answer;
-pub use boundary_answers::refused;
-pub use boundary_numbers::heard_answer;
-pub use boundary_numbers::ticked_answer;
 use panel::Panel;
 pub use phase::phase_number;
 pub use phase::phase_of;

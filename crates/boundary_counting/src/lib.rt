@@ -23,20 +23,20 @@ pub fn tick(
     if boundary_calm::counts(core, time) {
         return Outcome {
             core: boundary_calm::count(core, time),
-            answer: boundary_core::done(),
+            answer: boundary_answers::done(),
         };
     }
     if core.phase == boundary_core::PARTICIPATING {
         return boundary_silence::tick(core, listed, areas, watch, misses);
     }
     if core.phase == boundary_core::STARTUP {
-        return boundary_ending::tick_startup(core, listed, areas, watch, misses);
+        return boundary_startup::tick_startup(core, listed, areas, watch, misses);
     }
     if core.phase == boundary_core::JOINING {
         return boundary_ending::tick_joining(core, listed, areas, watch, misses);
     }
     Outcome {
         core: boundary_refused::kept(core),
-        answer: boundary_core::ticked_answer(Ticked::Off),
+        answer: boundary_numbers::ticked_answer(Ticked::Off),
     }
 }

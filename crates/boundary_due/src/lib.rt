@@ -15,9 +15,10 @@ pub fn is_due(core: Core) -> bool
     let waited = core.waited;
     match phase {
         Phase::Off => false,
-        Phase::Listening => waits::listening_time(own.number).0 <= elapsed.0,
-        Phase::Startup => (waits::number_wait(own.number).0 <= elapsed.0) & !core.sent,
-        Phase::Joining => (core.rounds == 3) & (waits::number_wait(own.number).0 <= waited.0),
+        Phase::Listening => waits_lengths::listening_time(own.number).0 <= elapsed.0,
+        Phase::Startup => (waits_lengths::number_wait(own.number).0 <= elapsed.0) & !core.sent,
+        Phase::Joining => (core.rounds == 3)
+            & (waits_lengths::number_wait(own.number).0 <= waited.0),
         Phase::Participating => (core.view == own.number)
             & asking_placing::is_placed(own, core.block),
     }

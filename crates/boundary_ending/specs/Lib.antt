@@ -1,3 +1,2 @@
 -- A tick that ends a wait before we participate.
 pub mod Ending
-pub mod Started

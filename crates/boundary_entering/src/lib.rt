@@ -95,7 +95,7 @@ fn has_fallen(core: Core) -> bool
     let number = core.own.number;
     let elapsed = core.elapsed;
     let waited = core.waited;
-    let wait = waits::number_wait(number);
+    let wait = waits_lengths::number_wait(number);
     match phase {
         Phase::Off => false,
         Phase::Listening => false,
@@ -225,7 +225,7 @@ pub fn hear(
 {
     let code = frame.code;
     let phase = phase_of(core.phase);
-    let answer = boundary_core::heard_answer(hearing_token::answer(phase, code));
+    let answer = boundary_numbers::heard_answer(hearing_token::answer(phase, code));
     match effect_of(phase, code) {
         Effect::Nothing => Outcome {
             core: boundary_refused::kept(core),

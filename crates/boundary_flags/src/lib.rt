@@ -1,7 +1,7 @@
-// The first listed number from a number on, and next, by the flags alone of a station list in arrays.
+// The first listed number from a number on, by the flags alone of a station list in arrays.
 ghost use Rattle.laws.specs.Usual.{_≡_, _+_, _≤_, min};
 ghost use Rattle.members_searching.specs.Search.{firstFrom, numberOr};
-ghost use Rattle.boundary_lists.specs.Lists.{flagged, nextIn, anyOfFour, anyOfSixteen};
+ghost use Rattle.boundary_lists.specs.Lists.{flagged, anyOfFour, anyOfSixteen};
 
 fn any_of_four(listed: &[bool; 256], from: usize) -> bool
     requires { ⌜ from + 4 ≤ 256 ⌝ }
@@ -49,31 +49,4 @@ pub fn first_listed(listed: &[bool; 256], from: usize, end: usize) -> usize
         number += 1;
     }
     end
-}
-
-// "'Next' is the next larger number in the list with ours, or the smallest after the largest."
-pub fn next_after(ours: u8, listed: &[bool; 256], number: u8) -> u8
-    ensures { λ r. ⌜ r ≡ nextIn ours (now (listed .entry)) number ⌝ }
-{
-    let above = number as usize + 1;
-    if number < ours {
-        return first_listed(listed, above, ours as usize) as u8;
-    }
-    let larger = first_listed(listed, above, 256);
-    if larger < 256 {
-        return larger as u8;
-    }
-    first_listed(listed, 0, ours as usize) as u8
-}
-
-// Next after our own number, which asking for each block looks for: a function with one caller is put into it by the compiler, and the other
-// has several.
-pub fn next_after_ours(ours: u8, listed: &[bool; 256]) -> u8
-    ensures { λ r. ⌜ r ≡ nextIn ours (now (listed .entry)) ours ⌝ }
-{
-    let larger = first_listed(listed, ours as usize + 1, 256);
-    if larger < 256 {
-        return larger as u8;
-    }
-    first_listed(listed, 0, ours as usize) as u8
 }

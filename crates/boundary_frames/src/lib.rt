@@ -128,7 +128,7 @@ pub fn hear_frame(
         );
     }
     if boundary_refused::is_strange(state, sender, taker, frame) {
-        return tell_read(boundary_core::refused(Refusal::Stranger), frame);
+        return tell_read(boundary_answers::refused(Refusal::Stranger), frame);
     }
     hear_seldom(core, state, listed, areas, watch, misses, frame)
 }

@@ -1,8 +1,8 @@
 // An accepted cyclic frame heard by a participant, on its core alone.
 use area::Areas;
-use boundary_answers::cyclic;
 use boundary_core::Core;
 use boundary_core::Outcome;
+use boundary_cyclic::cyclic;
 use frame::Fields;
 ghost use Rattle.laws.specs.Usual.{_≡_, true, length};
 ghost use Rattle.frame.specs.Codes.{isCyclic};

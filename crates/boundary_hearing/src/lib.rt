@@ -1,6 +1,6 @@
 // Hearing, on the core in numbers and the list in arrays. A refused frame touches neither, but for number 6 before we participate.
+use boundary_answers::refused;
 use boundary_core::Answer;
-use boundary_core::refused;
 use boundary_keeping::keep;
 use boundary_reading::core_in;
 use frame::Fields;

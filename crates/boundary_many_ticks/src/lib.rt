@@ -3,7 +3,7 @@ use boundary_core::Core;
 use boundary_core::Outcome;
 use boundary_core::phase_number;
 use boundary_core::phase_of;
-use boundary_core::ticked_answer;
+use boundary_numbers::ticked_answer;
 use boundary_watch::watch_time;
 use ticking_calm::Counts;
 use units::Milliseconds;
@@ -88,7 +88,7 @@ fn is_alone(core: Core, listed: &[bool; 256]) -> bool
     if !(state_tests::is_participating(phase_of(core.phase)) & (core.view == number)) {
         return false;
     }
-    let next = boundary_flags::next_after(number, listed, number);
+    let next = boundary_next::next_after(number, listed, number);
     (next == number) & !boundary_lists::is_listed(listed, number)
 }
 

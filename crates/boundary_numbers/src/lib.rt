@@ -1,8 +1,8 @@
 // The answers of a tick and of a hearing as numbers, for C.
 use boundary_answers::Answer;
-use boundary_answers::cyclic;
 use boundary_answers::done;
 use boundary_answers::refused;
+use boundary_cyclic::cyclic;
 use station::Heard;
 use station::Ticked;
 ghost use mathlib.Core.Path.{_≡_};

@@ -1,10 +1,10 @@
-// The test of a frame that a participant hears, its block sent and its watch restarted, on its core alone.
+// The test of a frame that a participant hears, and its watch restarted, on its core alone.
 use boundary_core::Core;
 use frame::Fields;
 use station::Gathering;
 use units::Ticks;
-ghost use Rattle.laws.specs.Usual.{_≡_, true};
-ghost use Rattle.boundary_participant.specs.Quick.{isAccepted, holdsBlock, sentCore, restartedCore};
+ghost use Rattle.laws.specs.Usual.{_≡_};
+ghost use Rattle.boundary_participant.specs.Quick.{isAccepted, restartedCore};
 
 // Whether a participant accepts a cyclic frame that was read, by whether its source and its destination are listed.
 pub fn is_accepted(core: Core, source: bool, destination: bool, frame: Fields) -> bool
@@ -18,41 +18,14 @@ pub fn is_accepted(core: Core, source: bool, destination: bool, frame: Fields) -
     cyclic & (other & known)
 }
 
-pub fn holds_block(core: Core) -> bool
-    ensures { λ r. ⌜ r ≡ holdsBlock core ⌝ }
-{
-    let own = core.own;
-    (core.phase == boundary_core::PARTICIPATING)
-        & ((core.view == own.number) & asking_placing::is_placed(own, core.block))
-}
-
-// The core after a block is sent, where `next` is the number next after ours.
-pub fn sent_block(core: Core, next: u8) -> Core
-    requires { ⌜ holdsBlock core ≡ true ⌝ }
-    ensures { λ r. ⌜ r ≡ sentCore core next ⌝ }
-{
-    let own = core.own;
-    let counter = core.panel;
-    let after = asking_placing::after_block(own, core.view, core.block, counter, next);
-    let panel = after.panel;
-    Core {
-        phase: boundary_core::PARTICIPATING,
-        elapsed: Ticks(0),
-        view: after.view,
-        block: after.block,
-        panel,
-        ..core
-    }
-}
-
 // The watch restarts, with another view and gathering.
 pub fn restart(core: Core, view: u8, gathering: Gathering) -> Core
     ensures { λ r. ⌜ r ≡ restartedCore core view gathering ⌝ }
 {
     let number = core.own.number;
     let counter = core.panel;
-    let block = phases::place_kept(view, number, core.block);
-    let panel = phases::taken_if(phases::takes(number, core.view, view), counter);
+    let block = state_parts::place_kept(view, number, core.block);
+    let panel = state_parts::taken_if(state_tests::takes(number, core.view, view), counter);
     Core {
         phase: boundary_core::PARTICIPATING,
         elapsed: Ticks(0),

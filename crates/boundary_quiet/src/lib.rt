@@ -40,11 +40,11 @@ pub fn quiet_ticks(core: Core, listed: &[bool; 256], watch: &[u8; 256]) -> Quiet
     let left = ticking_left::left_in(phase, number, time, core.sent, core.rounds, elapsed, waited);
     match phase {
         Phase::Off => unless(true, left),
-        Phase::Listening => unless(waits::listening_time(number).0 <= elapsed.0, left),
+        Phase::Listening => unless(waits_lengths::listening_time(number).0 <= elapsed.0, left),
         Phase::Startup => unless(false, left),
         Phase::Joining => unless(false, left),
         Phase::Participating => unless(
-            boundary_flags::next_after(number, listed, view) == view,
+            boundary_next::next_after(number, listed, view) == view,
             left,
         ),
     }

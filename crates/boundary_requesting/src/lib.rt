@@ -1,7 +1,7 @@
 // Our request sent in ring startup or in joining, on the core alone.
+use boundary_answers::frame_answer;
 use boundary_core::Core;
 use boundary_core::Outcome;
-use boundary_core::frame_answer;
 ghost use Rattle.laws.specs.Usual.{_≡_, [], _≤_, length};
 ghost use Rattle.boundary_answers.specs.Numbers.{frameAnswer};
 ghost use Rattle.boundary_requesting.specs.Requesting.{isRequesting, requestOf, requestingCore};

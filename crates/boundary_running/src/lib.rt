@@ -17,7 +17,7 @@ fn refuse(core: Core, refusal: Refusal) -> Outcome
     ensures { λ r. ⌜ r .core ≡ keptCore core ⌝ }
     ensures { λ r. ⌜ r .answer ≡ refusedAnswer refusal ⌝ }
 {
-    let answer = boundary_core::refused(refusal);
+    let answer = boundary_answers::refused(refusal);
     Outcome {
         core: boundary_refused::kept(core),
         answer,
@@ -39,7 +39,7 @@ pub fn start(
     match starting::start_answer(phase_of(core.phase), own) {
         Switched::Done => Outcome {
             core: boundary_beginning::begin(Phase::Listening, own, listed, areas, watch, misses),
-            answer: boundary_core::done(),
+            answer: boundary_answers::done(),
         },
         Switched::Refused(refusal) => refuse(core, refusal),
     }
@@ -62,6 +62,6 @@ pub fn stop(
     let number = core.own.number;
     Outcome {
         core: boundary_beginning::turn_off(number, listed, areas, watch, misses),
-        answer: boundary_core::done(),
+        answer: boundary_answers::done(),
     }
 }

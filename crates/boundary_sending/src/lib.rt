@@ -1,12 +1,12 @@
 // A holder's block, sent with the list in place.
+use boundary_answers::frame_answer;
 use boundary_core::Core;
 use boundary_core::Outcome;
-use boundary_core::frame_answer;
-use boundary_participant::sent_block;
+use boundary_holder::sent_block;
 ghost use Rattle.laws.specs.Usual.{_≡_, true};
 ghost use Rattle.boundary_core.specs.Crossing.{coreOf, stationIn};
 ghost use Rattle.boundary_told.specs.Told.{askedTold};
-ghost use Rattle.boundary_participant.specs.Quick.{holdsBlock};
+ghost use Rattle.boundary_holder.specs.Held.{holdsBlock};
 ghost use Rattle.station.specs.Rules.Asking.{lentRight, askOf};
 
 pub fn ask(
@@ -27,9 +27,9 @@ pub fn ask(
     ensures { λ _. ⌜ now (output .exit) ≡ askOf (stationIn core (now (listed .entry)) (now (areas .entry)) (now (watch .entry)) (now (misses .entry))) (now (memory .entry)) (now (turn .entry)) (now (output .entry)) .output ⌝ }
 {
     let own = core.own;
-    let next = boundary_flags::next_after_ours(own.number, listed);
+    let next = boundary_next::next_after_ours(own.number, listed);
     let octets = asking_sending::send_next(own, core.block, next, memory, turn, output);
-    let answer = boundary_told::tell_written(frame_answer(octets), output);
+    let answer = boundary_written::tell_written(frame_answer(octets), output);
     Outcome {
         core: sent_block(core, next),
         answer,

@@ -82,11 +82,11 @@ pub fn tick(
     ensures { λ _. ⌜ membersIn (now (listed .exit)) (now (areas .exit)) (now (watch .exit)) (now (misses .exit)) ≡ tickOf (stationIn core (now (listed .entry)) (now (areas .entry)) (now (watch .entry)) (now (misses .entry))) .station .members ⌝ }
 {
     let view = core.view;
-    let next = boundary_flags::next_after(core.own.number, listed, view);
+    let next = boundary_next::next_after(core.own.number, listed, view);
     let entry = boundary_lists::entry_at(listed, areas, watch, misses, view);
     miss(listed, areas, watch, misses, view);
     Outcome {
         core: silence(core, next, entry),
-        answer: boundary_core::done(),
+        answer: boundary_answers::done(),
     }
 }

@@ -1,12 +1,14 @@
 -- An entry stored in the arrays is stored in the list that they hold, and arrays of nothing hold none. Assumes nothing.
-use Rattle.laws.specs.Usual.{_≡_, refl, Bool, false, List, ℕ, _+_, _*_, _<_, _≤_, arith, length, getD, set, replicate}
+use Rattle.laws.specs.Usual.{_≡_, refl, ap, ap₂, Bool, false, List, _∷_, ℕ, suc, _+_, _*_, _<_, _≤_, arith, length, getD, set, replicate}
 use mathlib.Core.Logic.{_≢_}
+use Prim.Native.Nat.{zero}
 use lib.ListN.{length-set}
 use lib.Seq.{getD-set-same, getD-set-other}
 use Rattle.area.specs.declared.Areas.{Areas}
-use Rattle.members.specs.Members.{noMembers, withEntry}
+use Rattle.members.specs.Members.{nobody, noMembers, withEntry}
 use Rattle.members.specs.declared.Entry.{Entry}
-use Rattle.boundary_lists.specs.Lists.{areasFrom, membersIn, Whole}
+use Rattle.members.specs.declared.Members.{Members}
+use Rattle.boundary_lists.specs.Lists.{areasFrom, entryIn, entriesFrom, membersIn, Whole}
 use Rattle.boundary_lists.specs.Laws.{changed-in}
 
 -- areas stored in four places in a row
@@ -72,6 +74,29 @@ put-in listed areas watch misses number entry h whole =
     ))
 
 -- arrays of nothing hold an empty list
+nothing-at : {A : Type 0} (count place : ℕ) (a : A) → getD (replicate count a) place a ≡ a
+nothing-at zero place a = refl
+nothing-at (suc count) zero a = refl
+nothing-at (suc count) (suc place) a = nothing-at count place a
+
+module _ (l a w m : ℕ) where
+  entry-none : (i : ℕ) → entryIn (replicate l false) (replicate a 0) (replicate w 0) (replicate m 0) i ≡ nobody
+  entry-none i =
+      rw (
+        nothing-at l i false,
+        nothing-at {A = ℕ} a (4 * i) 0,
+        nothing-at {A = ℕ} a (4 * i + 1) 0,
+        nothing-at {A = ℕ} a (4 * i + 2) 0,
+        nothing-at {A = ℕ} a (4 * i + 3) 0,
+        nothing-at {A = ℕ} w i 0,
+        nothing-at {A = ℕ} m i 0,
+      )
+
+  entries-none : (number count : ℕ)
+      → entriesFrom (entryIn (replicate l false) (replicate a 0) (replicate w 0) (replicate m 0)) number count ≡ replicate count nobody
+  entries-none number zero = refl
+  entries-none number (suc count) = ap₂ _∷_ (entry-none number) (entries-none (suc number) count)
+
 pub none-in : membersIn (replicate 256 false) (replicate 1024 0) (replicate 256 0) (replicate 256 0) ≡ noMembers
 unfolding membersIn
-none-in = refl
+none-in = ap (λ (entries : List Entry). record { entries = entries }) (entries-none 256 1024 256 256 0 256)

@@ -28,7 +28,7 @@ pub fn tick(
     let time = boundary_watch::watch_time(state, listed, watch);
     if boundary_calm::counts(state, time) {
         keep(core, boundary_calm::count(state, time));
-        return boundary_core::done();
+        return boundary_answers::done();
     }
     keep_outcome(
         core,

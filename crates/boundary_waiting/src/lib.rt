@@ -11,12 +11,12 @@ fn limit(phase: u8, number: u8) -> Ticks
     ensures { λ r. ⌜ r .0 ≡ limitOf phase number ⌝ }
 {
     if phase == boundary_core::LISTENING {
-        return waits::listening_time(number);
+        return waits_lengths::listening_time(number);
     }
     if phase == boundary_core::STARTUP {
-        return waits::acceptance_time();
+        return waits_lengths::acceptance_time();
     }
-    waits::detection_wait()
+    waits_lengths::detection_wait()
 }
 
 fn startup_ends(core: Core) -> bool
@@ -24,7 +24,7 @@ fn startup_ends(core: Core) -> bool
 {
     let number = core.own.number;
     let before = core.elapsed;
-    let time = waits::acceptance_time();
+    let time = waits_lengths::acceptance_time();
     let after = waits::later(time, before);
     (time.0 <= after.0) | waits::wait_ends(number, before, after)
 }
@@ -35,7 +35,7 @@ fn joining_ends(core: Core) -> bool
     let number = core.own.number;
     let elapsed = core.elapsed;
     let waited = core.waited;
-    let time = waits::detection_wait();
+    let time = waits_lengths::detection_wait();
     let after = waits::later(time, elapsed);
     (time.0 <= after.0)
         | waits::wait_ends(

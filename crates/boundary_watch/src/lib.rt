@@ -15,7 +15,7 @@ pub fn watch_time(core: Core, listed: &[bool; 256], watch: &[u8; 256]) -> Millis
     let held = core.view == own.number;
     let there = listed[place];
     let time = watch[place];
-    waits::watch_time(held, there, own.watch, Milliseconds(time))
+    waits_watch::watch_time(held, there, own.watch, Milliseconds(time))
 }
 
 // Whether a participant's next tick does not end its watch, which runs for a time.
@@ -23,7 +23,7 @@ pub fn is_quiet(core: Core, time: Milliseconds) -> bool
     ensures { λ r. ⌜ r ≡ isQuiet core time ⌝ }
 {
     let elapsed = core.elapsed;
-    (core.phase == boundary_core::PARTICIPATING) & !waits::watch_ends(time, elapsed)
+    (core.phase == boundary_core::PARTICIPATING) & !waits_watch::watch_ends(time, elapsed)
 }
 
 // The core after such a tick.
@@ -32,7 +32,7 @@ pub fn quiet(core: Core) -> Core
 {
     let before = core.elapsed;
     let counter = core.panel;
-    let elapsed = waits::later(waits::longest_watch(), before);
+    let elapsed = waits::later(waits_watch::longest_watch(), before);
     let panel = panel::tick(counter);
     Core {
         elapsed,

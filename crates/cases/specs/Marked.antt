@@ -1,7 +1,7 @@
 -- Paper 01, "Marked cases (*) and others": the marked cases are one table, held against the rules by one check.
 use Rattle.laws.specs.Usual.{_≡_, refl, Bool, true, false, cond, _&&_, List, [], _∷_, ℕ, _-_, min, replicate, eqb}
 use Rattle.block.specs.Blocks.{blocksOf, lengthOf}
-use Rattle.frame.specs.Refusals.{numberOf}
+use Rattle.frame_refusals.specs.Refusals.{numberOf}
 use Rattle.frame.specs.declared.Code.the-variants.{Token, Cyclic, Request}
 use Rattle.members.specs.Listing.{listing}
 use Rattle.members.specs.Members.{noMembers, nextAfter}

@@ -1,7 +1,7 @@
 -- The line that is printed for each answer.
 use Rattle.laws.specs.Usual.{List, [], _∷_, ℕ}
 use Rattle.frame.specs.Codes.{codeNumber}
-use Rattle.frame.specs.Refusals.{numberOf}
+use Rattle.frame_refusals.specs.Refusals.{numberOf}
 use Rattle.frame.specs.declared.Fields.{Fields}
 use Rattle.frame_reading.specs.declared.Read.the-variants.{Frame, Refused}
 use Rattle.text.specs.Lines.{lineOf}

@@ -5,7 +5,7 @@ use frame::Refusal;
 use frame_reading::Read;
 ghost use Rattle.laws.specs.Usual.{_≡_, [], _∷_, length};
 ghost use Rattle.copying.specs.Pasted.{pasted};
-ghost use Rattle.frame.specs.Refusals.{numberOf};
+ghost use Rattle.frame_refusals.specs.Refusals.{numberOf};
 ghost use Rattle.text.specs.Lines.{lineOf};
 ghost use Rattle.decode_answers.specs.Answers.{fieldNumbers, frameWord, refusedWord, badWord, textOf};
 
@@ -44,7 +44,7 @@ fn put_refused(refusal: Refusal, output: &mut [u8; 160]) -> usize
     ensures { λ r. ⌜ r ≡ length (lineOf refusedWord (numberOf refusal ∷ [])) ⌝ }
     ensures { λ _. ⌜ now (output .exit) ≡ pasted (now (output .entry)) 0 (lineOf refusedWord (numberOf refusal ∷ [])) ⌝ }
 {
-    let numbers = [frame::number_of(refusal) as u32];
+    let numbers = [frame_refusals::number_of(refusal) as u32];
     text::put_line(b"refused", &numbers, output)
 }
 

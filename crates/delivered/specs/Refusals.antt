@@ -6,7 +6,7 @@ use Rattle.boundary_answers.specs.Numbers.{switchedAnswer, tickedAnswer}
 use Rattle.boundary_told.specs.Told.{heardTold, askedTold}
 use Rattle.boundary_answers.specs.declared.Answer.{Answer}
 use Rattle.boundary_core.specs.declared.Core.{Core}
-use Rattle.frame.specs.Refusals.{numberOf}
+use Rattle.frame_refusals.specs.Refusals.{numberOf}
 use Rattle.frame.specs.declared.Refusal.the-variants as refusals
 use Rattle.boundary_lists.specs.Laws.{list-told}
 use Rattle.boundary_lists.specs.Lists.{membersIn}

@@ -12,7 +12,7 @@ pub fn trigger_due(station: Station) -> bool
 {
     let own = station.own;
     let elapsed = station.elapsed;
-    let wait = phases::listening_time(own.number);
+    let wait = waits_lengths::listening_time(own.number);
     wait.0 <= elapsed.0
 }
 
@@ -24,7 +24,7 @@ pub fn request_fallen(station: Station) -> bool
     let own = station.own;
     let elapsed = station.elapsed;
     let waited = station.waited;
-    let wait = phases::number_wait(own.number);
+    let wait = waits_lengths::number_wait(own.number);
     match phase {
         Phase::Off => false,
         Phase::Listening => false,
@@ -42,7 +42,7 @@ pub fn ours_due(station: Station) -> Areas
     if request_fallen(station) {
         own.areas
     } else {
-        phases::no_areas()
+        state_parts::no_areas()
     }
 }
 

@@ -36,7 +36,7 @@ pub extern "C" fn flnet_new(
     ensures { λ _. ⌜ now (core .exit) ≡ replicate 18 0 ⌝ }
     ensures { λ _. ⌜ membersIn (now (listed .exit)) (now (areas .exit)) (now (watch .exit)) (now (misses .exit)) ≡ noMembers ⌝ }
 {
-    boundary_switching::new(core, listed, areas, watch, misses);
+    boundary_new::new(core, listed, areas, watch, misses);
 }
 
 #[no_mangle]

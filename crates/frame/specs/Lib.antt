@@ -1,5 +1,4 @@
 -- The definitions of this crate.
-pub mod Refusals
 pub mod Codes
 pub mod Positions
 pub mod Octets

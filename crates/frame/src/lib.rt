@@ -1,9 +1,8 @@
-// The frames of FL-net: their fields, their codes, and the numbers that a station refuses with.
+// The frames of FL-net: their fields, their codes, and what a station refuses.
 use area::Areas;
 use units::Milliseconds;
 ghost use mathlib.Core.Path.{_≡_};
 ghost use Rattle.frame.specs.Codes.{codeOf, codeNumber, isToken, isCyclic, carriesAreas};
-ghost use Rattle.frame.specs.Refusals.{numberOf};
 
 // The fields of a frame that the paper names, in the order of the header, each under the standard's symbol.
 pub struct Fields {
@@ -115,24 +114,4 @@ pub enum Refusal {
     Buffer,
     Total,
     Number,
-}
-
-pub fn number_of(refusal: Refusal) -> u8
-    ensures { λ r. ⌜ r ≡ numberOf refusal ⌝ }
-{
-    match refusal {
-        Refusal::Cut => 1,
-        Refusal::Mark => 2,
-        Refusal::Length => 3,
-        Refusal::Code => 4,
-        Refusal::Address => 5,
-        Refusal::Taken => 6,
-        Refusal::Area => 7,
-        Refusal::Block => 8,
-        Refusal::Stranger => 9,
-        Refusal::NotDue => 10,
-        Refusal::Buffer => 11,
-        Refusal::Total => 14,
-        Refusal::Number => 15,
-    }
 }

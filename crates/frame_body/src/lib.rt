@@ -1,9 +1,9 @@
-// Reading a frame to its end: refusals 7, 14, 15 and 8, the whole frame, and its data.
+// Reading a frame to its end: refusals 7, 14, 15 and 8, and the whole frame.
 use frame::Fields;
 use frame::Refusal;
 use frame_reading::Read;
-ghost use Rattle.laws.specs.Usual.{_≡_, _-_};
-ghost use Rattle.frame_reading.specs.Reading.{ranged, totalled, numbered, measured, readBodyOf, readOf, dataSize, dataOf};
+ghost use Rattle.laws.specs.Usual.{_≡_};
+ghost use Rattle.frame_reading.specs.Reading.{ranged, totalled, numbered, measured, readBodyOf, readOf};
 
 fn is_ranged(fields: Fields) -> bool
     ensures { λ r. ⌜ r ≡ ranged fields ⌝ }
@@ -11,13 +11,6 @@ fn is_ranged(fields: Fields) -> bool
     let code = fields.code;
     let areas = fields.areas;
     !frame::carries_areas(code) | area::in_range(areas)
-}
-
-// How many of the octets given stand before the last size of them.
-fn header_part(given: usize, size: usize) -> usize
-    ensures { λ r. ⌜ r ≡ given - size ⌝ }
-{
-    if given < size { 0 } else { given - size }
 }
 
 fn is_totalled(fields: Fields) -> bool
@@ -38,7 +31,7 @@ fn is_measured(given: usize, fields: Fields) -> bool
 {
     let areas = fields.areas;
     let size = fields.size as usize == block::block_length(areas, fields.block);
-    let header = header_part(given, fields.size as usize);
+    let header = frame_data::header_part(given, fields.size as usize);
     size & ((64 <= header) & (header <= 96))
 }
 
@@ -70,23 +63,4 @@ pub fn read_frame(s: &[u8]) -> Read
         Read::Frame(fields) => read_body(s.len(), fields),
         Read::Refused(refusal) => Read::Refused(refusal),
     }
-}
-
-pub fn data_size(fields: Fields) -> usize
-    ensures { λ r. ⌜ r ≡ dataSize fields ⌝ }
-{
-    let code = fields.code;
-    if frame::is_cyclic(code) {
-        fields.size as usize
-    } else {
-        0
-    }
-}
-
-// "the data are the last BSIZE octets": a part of the frame's slice from its middle, handed on without a copy (paper 01, list of forms).
-pub fn data_of(s: &[u8], fields: Fields) -> &[u8]
-    ensures { λ r. ⌜ now r ≡ dataOf (now (s .entry)) fields ⌝ }
-{
-    let start = header_part(s.len(), data_size(fields));
-    &s[start..]
 }

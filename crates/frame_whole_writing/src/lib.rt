@@ -14,7 +14,7 @@ ghost use Rattle.frame.specs.declared.Code.the-variants.{Token, Request, Trigge
 pub fn whole_length(fields: Fields) -> usize
     ensures { λ r. ⌜ r ≡ wholeLength fields ⌝ }
 {
-    64 + frame_body::data_size(fields)
+    64 + frame_data::data_size(fields)
 }
 
 // The fields of a cyclic frame: all as they are but TFL.
@@ -72,7 +72,7 @@ pub fn write_frame(fields: Fields, block: &[u8], output: &mut [u8]) -> Written
     ensures { λ r. ⌜ r ≡ writtenOf fields (now (block .entry)) (now (output .entry)) ⌝ }
     ensures { λ _. ⌜ now (output .exit) ≡ outputOf fields (now (block .entry)) (now (output .entry)) ⌝ }
 {
-    let size = frame_body::data_size(fields);
+    let size = frame_data::data_size(fields);
     let whole = whole_length(fields);
     if block.len() < size {
         return Written::Refused(Refusal::Buffer);

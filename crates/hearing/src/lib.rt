@@ -25,7 +25,7 @@ fn is_taken(station: Station, frame: Fields) -> bool
 {
     let phase = station.phase;
     let own = station.own;
-    !phases::is_off(phase) & (frame.source == own.number)
+    !state_tests::is_off(phase) & (frame.source == own.number)
 }
 
 // Number 6 turns a station off that does not participate yet.
@@ -33,7 +33,7 @@ fn after_taken(station: Station) -> Station
     ensures { λ r. ⌜ r ≡ afterTaken station ⌝ }
 {
     let phase = station.phase;
-    if phases::is_participating(phase) {
+    if state_tests::is_participating(phase) {
         station
     } else {
         phases::stopped(station)
@@ -54,7 +54,7 @@ fn is_stranger(station: Station, frame: Fields) -> bool
 {
     let phase = station.phase;
     let code = frame.code;
-    let asked = phases::is_participating(phase) & frame::is_cyclic(code);
+    let asked = state_tests::is_participating(phase) & frame::is_cyclic(code);
     let known = knows(station, frame.source)
         & (!frame::is_token(code) | knows(station, frame.destination));
     asked & !known
@@ -77,7 +77,7 @@ fn accept(
 {
     let phase = station.phase;
     let code = frame.code;
-    if phases::is_participating(phase) & frame::is_cyclic(code) {
+    if state_tests::is_participating(phase) & frame::is_cyclic(code) {
         return participant_hears(station, frame, octets, memory, assembly);
     }
     let answer = hearing_token::answer(phase, code);

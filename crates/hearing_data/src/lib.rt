@@ -27,6 +27,6 @@ pub fn gather_frame(
     ensures { λ _. ⌜ now (memory .exit) ≡ gatheredFrom before listed frame (dataOf (now (octets .entry)) frame) (now (assembly .entry)) (now (memory .entry)) .memory ⌝ }
     ensures { λ _. ⌜ now (assembly .exit) ≡ gatheredFrom before listed frame (dataOf (now (octets .entry)) frame) (now (assembly .entry)) (now (memory .entry)) .assembly ⌝ }
 {
-    let part = frame_body::data_of(octets, frame);
+    let part = frame_data::data_of(octets, frame);
     hearing_gathering::gather(before, listed, frame, part, assembly, memory)
 }

@@ -33,7 +33,11 @@ fn request(station: Station, frame: Fields) -> Station
     let watch = frame.watch;
     let ours = falling_due::ours_due(station);
     let listed = members_listing::list(members, frame.source, areas, watch, ours);
-    relist(station, listed, phases::without(frame.source, gathering))
+    relist(
+        station,
+        listed,
+        state_parts::without(frame.source, gathering),
+    )
 }
 
 // "Joining learns source, areas and watch time from cyclic frames for three rounds."
@@ -44,7 +48,7 @@ fn learn(station: Station, frame: Fields) -> Members
     let areas = frame.areas;
     let watch = frame.watch;
     if station.rounds < 3 {
-        members_listing::list(members, frame.source, areas, watch, phases::no_areas())
+        members_listing::list(members, frame.source, areas, watch, state_parts::no_areas())
     } else {
         members
     }

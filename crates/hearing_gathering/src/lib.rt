@@ -43,7 +43,7 @@ fn finish(listed: Areas, frame: Fields, assembly: &[u8], memory: &mut [u8]) -> S
 {
     if frame.block == frame.blocks {
         write_turn(listed, assembly, memory);
-        let gathering = phases::nothing();
+        let gathering = state_parts::nothing();
         return Stored {
             gathering,
             outcome: Data::Written,
@@ -64,7 +64,7 @@ fn drop_both() -> Stored
     ensures { λ r. ⌜ r .gathering ≡ nothing ⌝ }
     ensures { λ r. ⌜ r .outcome ≡ Dropped ⌝ }
 {
-    let gathering = phases::nothing();
+    let gathering = state_parts::nothing();
     Stored {
         gathering,
         outcome: Data::Dropped,

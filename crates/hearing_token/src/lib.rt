@@ -44,7 +44,7 @@ pub fn outcome_of(own: u8, before: u8, frame: Fields, outcome: Data) -> Token
     if !frame::is_token(code) {
         return Token::None(outcome);
     }
-    if phases::takes(own, before, after) {
+    if state_tests::takes(own, before, after) {
         return Token::OursNow(outcome);
     }
     if frame.source == before {
@@ -60,7 +60,7 @@ pub fn outcome_of(own: u8, before: u8, frame: Fields, outcome: Data) -> Token
 pub fn answer(phase: Phase, code: Code) -> Heard
     ensures { λ r. ⌜ r ≡ entersAnswer phase code ⌝ }
 {
-    if phases::is_off(phase) {
+    if state_tests::is_off(phase) {
         return Heard::Off;
     }
     if frame::is_cyclic(code) {

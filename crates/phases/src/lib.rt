@@ -1,25 +1,11 @@
-// The state of a station that is off, and at the beginning of a phase with an empty list; with the parts of a state and the waits.
-pub use state_parts::no_areas;
-pub use state_parts::nothing;
-pub use state_parts::place_kept;
-pub use state_parts::taken_if;
-pub use state_parts::without;
-pub use state_tests::holds;
-pub use state_tests::is_off;
-pub use state_tests::is_participating;
-pub use state_tests::takes;
+// The state of a station that is off, and at the beginning of a phase with an empty list.
+use state_parts::no_areas;
+use state_parts::nothing;
 use station::Phase;
 use station::Settings;
 use station::Station;
 use units::Milliseconds;
 use units::Ticks;
-pub use waits::acceptance_time;
-pub use waits::detection_wait;
-pub use waits::later;
-pub use waits::listening_time;
-pub use waits::longest_watch;
-pub use waits::number_wait;
-pub use waits::watch_ticks;
 ghost use Rattle.laws.specs.Usual.{_≡_};
 ghost use Rattle.station.specs.Rules.State.{fresh as freshOf, stopped as stoppedOf, never as neverOf};
 ghost use Rattle.station.specs.declared.Phase.the-variants.{Off};

@@ -25,7 +25,7 @@ use Rattle.delivered.specs.Rings.{Boxes, stationsIn, Runs, delivered-settles}
 use Rattle.text_feeding.specs.Lines as lines
 use Rattle.frame.specs.Codes.{codeNumber, isToken, isCyclic}
 use Rattle.frame.specs.Octets.{octetAt}
-use Rattle.frame.specs.Refusals.{order}
+use Rattle.frame_refusals.specs.Refusals.{order}
 use Rattle.frame.specs.declared.Refusal.the-variants.{Taken}
 use Rattle.members.specs.Members.{entryOf, isListed, ringOf}
 use Rattle.misses.specs.MissHistory.{missesSaid, ends, isStop}

@@ -1,13 +1,13 @@
 -- Paper 01, "Numbers the station answers with", and E5 of paper 02: for each number, the calls and states to which it applies. Each definition says when its own
 -- condition holds, whatever the other numbers say of the same call. Which one is answered where several apply is the table `order` of
--- crates/frame/specs/Refusals.antt. A refusal that a change request adds gets a definition of its own here, and a clause of `applies`.
+-- crates/frame_refusals/specs/Refusals.antt. A refusal that a change request adds gets a definition of its own here, and a clause of `applies`.
 use Rattle.laws.specs.Usual.{Bool, false, cond, not, _&&_, _||_, List, [], _∷_, ℕ, _-_, length, eqb, ltb}
 use Rattle.area.specs.Areas.{inRange, memoryOctets}
 use Rattle.block.specs.Blocks.{blocksOf, lengthOf}
 use Rattle.frame.specs.Codes.{codeOf, isKnown, isToken, isCyclic, carriesAreas}
 use Rattle.frame.specs.Octets.{wordAt, longAt}
 use Rattle.frame.specs.Positions.{TFL, TCD}
-use Rattle.frame.specs.Refusals.{order}
+use Rattle.frame_refusals.specs.Refusals.{order}
 use Rattle.frame.specs.declared.Refusal.the-variants.{Cut, Mark, Length, Code, Address, Taken, Area, Block, Stranger, NotDue, Buffer, Total, Number}
 use Rattle.frame_reading.specs.Reading.{marked, codeIn, fieldsOf, isStation}
 use Rattle.station.specs.Rules.Asking.{dueIn}

@@ -2,7 +2,7 @@
 use Rattle.laws.specs.Usual.{_≡_, refl, List, [], _∷_, map, ℕ, set, replicate}
 use Rattle.area.specs.Areas.{memoryOctets}
 use Rattle.frame.specs.Positions.{TFL, TCD, C-SZ1, CBN, TBN, BSIZE}
-use Rattle.frame.specs.Refusals.{numberOf}
+use Rattle.frame_refusals.specs.Refusals.{numberOf}
 use Rattle.members.specs.Listing.{listing}
 use Rattle.members.specs.Members.{noMembers}
 use Rattle.frame_reading.specs.Reading.{fieldsOf}

@@ -1,7 +1,7 @@
 -- `first-applies`, told as statements about the order itself: which refusals stand before the one that is answered. Assumes nothing.
 use Rattle.laws.specs.Usual.{_≡_, refl, sym, ap, _∙_, Bool, true, false, cond, List, [], _∷_, _++_, ℕ, arith}
 use mathlib.Core.List.{List·Memᴰ, List·Memᴰ·head, List·Memᴰ·tail}
-use Rattle.frame.specs.Refusals.{order}
+use Rattle.frame_refusals.specs.Refusals.{order}
 use Rattle.station.specs.Rules.Calls.{Call, refusedBy, unrefused, verdict}
 use Rattle.frame.specs.declared.Refusal.{Refusal}
 use Rattle.station.specs.declared.Station.{Station}

@@ -1,7 +1,7 @@
 -- A frame that is read and that no station hears, as `decode` reads one, is refused by the same table. Assumes nothing.
 use Rattle.laws.specs.Usual.{_≡_, refl, Bool, true, false, cond, List, ℕ, replicate}
 use Rattle.area.specs.Areas.{memoryOctets}
-use Rattle.frame.specs.Refusals.{order}
+use Rattle.frame_refusals.specs.Refusals.{order}
 use Rattle.frame.specs.declared.Refusal.the-variants as refusals
 use Rattle.frame_reading.specs.Reading.{need, andThen, readOf}
 use Rattle.station.specs.Types.{Fields, Refusal, Read, Frame, Refused}

@@ -5,7 +5,8 @@ use Rattle.replay_commands.specs.declared.Command.{Command}
 use Rattle.replay_commands.specs.declared.Command.the-variants.{Start, Stop, Tick, Hear, Ask, Panel, Poke, Peek, State, Bad}
 use Rattle.copying.specs.Pasted.{pasted}
 use Rattle.ticking_quiet.specs.Many.{ticksOf}
-use Rattle.replay_replies.specs.Replies.{switchedText, heardText, askedText}
+use Rattle.replay_replies.specs.Replies.{switchedText, heardText}
+use Rattle.replay_reply_asked.specs.Asked.{askedText}
 use Rattle.replay_reply_shown.specs.Shown.{panelText, octetsText}
 use Rattle.replay_reply_state.specs.State.{stateText}
 use Rattle.replay_reply_words.specs.Answers.{doneText, badText, tickedText}

@@ -9,7 +9,8 @@ ghost use Rattle.text_hexadecimal.specs.Octets.{octetsOf};
 ghost use Rattle.copying.specs.Pasted.{pasted};
 ghost use Rattle.ticking_quiet.specs.Many.{ticksOf};
 ghost use Rattle.replay_performing.specs.Replaying.{pokedBy, digitsIn, keeping, performed};
-ghost use Rattle.replay_replies.specs.Replies.{switchedText, heardText, askedText};
+ghost use Rattle.replay_replies.specs.Replies.{switchedText, heardText};
+ghost use Rattle.replay_reply_asked.specs.Asked.{askedText};
 ghost use Rattle.replay_reply_shown.specs.Shown.{octetsText};
 ghost use Rattle.replay_reply_words.specs.Answers.{doneText, tickedText};
 ghost use Rattle.station.specs.Rules.Asking.{askOf};
@@ -83,7 +84,7 @@ fn ask(
     let asking = asking::ask(station, memory, turn, frame);
     let station = asking.station;
     let asked = asking.answer;
-    let length = replay_replies::put_asked(asked, frame, answer);
+    let length = replay_reply_asked::put_asked(asked, frame, answer);
     Reply { station, length }
 }
 

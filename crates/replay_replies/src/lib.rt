@@ -1,20 +1,13 @@
-// The line that `replay` prints for what a station answers to `start`, `stop`, `hear` and `ask`, written in front of a lent output. Each function
+// The line that `replay` prints for what a station answers to `start`, `stop` and `hear`, written in front of a lent output. Each function
 // answers the line's length.
-use replay_reply_octets::part_of;
-use replay_reply_octets::put_hex;
 use replay_reply_outcome::put_token;
 use replay_reply_parts::put_line;
-use replay_reply_parts::put_mark;
-use replay_reply_parts::put_word;
 use replay_reply_words::put_refused;
-use station::Asked;
 use station::Heard;
 use station::Switched;
-ghost use Rattle.laws.specs.Usual.{_≡_, _+_, _*_, _≤_, length};
+ghost use Rattle.laws.specs.Usual.{_≡_, _≤_, length};
 ghost use Rattle.copying.specs.Pasted.{pasted};
-ghost use Rattle.replay_reply_parts.specs.Hex.{hexOf};
-ghost use Rattle.replay_reply_parts.specs.Lines.{ended, spaced};
-ghost use Rattle.replay_replies.specs.Replies.{switchedText, heardText, frameWord, askedText};
+ghost use Rattle.replay_replies.specs.Replies.{switchedText, heardText};
 
 pub fn put_switched(switched: Switched, output: &mut [u8]) -> usize
     requires { ⌜ 40 ≤ length (now output) ⌝ }
@@ -37,26 +30,5 @@ pub fn put_heard(heard: Heard, output: &mut [u8]) -> usize
         Heard::Done => put_line(b"done", output),
         Heard::Cyclic(token) => put_token(token, output),
         Heard::Refused(refusal) => put_refused(refusal, output),
-    }
-}
-
-fn put_frame(frame: &[u8], output: &mut [u8]) -> usize
-    requires { ⌜ 2 * length (now frame) + 7 ≤ length (now output) ⌝ }
-    ensures { λ r. ⌜ r ≡ length (ended (spaced frameWord (hexOf (now (frame .entry))))) ⌝ }
-    ensures { λ _. ⌜ now (output .exit) ≡ pasted (now (output .entry)) 0 (ended (spaced frameWord (hexOf (now (frame .entry))))) ⌝ }
-{
-    let word = put_word(b"frame ", output, 0);
-    let end = put_hex(frame, output, word);
-    put_mark(b'\n', output, end)
-}
-
-pub fn put_asked(asked: Asked, frame: &[u8], output: &mut [u8]) -> usize
-    requires { ⌜ 2 * length (now frame) + 40 ≤ length (now output) ⌝ }
-    ensures { λ r. ⌜ r ≡ length (askedText asked (now (frame .entry))) ⌝ }
-    ensures { λ _. ⌜ now (output .exit) ≡ pasted (now (output .entry)) 0 (askedText asked (now (frame .entry))) ⌝ }
-{
-    match asked {
-        Asked::Octets(count) => put_frame(part_of(frame, 0, count), output),
-        Asked::Refused(refusal) => put_refused(refusal, output),
     }
 }

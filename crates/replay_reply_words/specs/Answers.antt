@@ -1,6 +1,6 @@
 -- The lines of one word, and the line for a refusal. Each ends in a line feed; numbers are in decimal with no leading zeros.
 use Rattle.laws.specs.Usual.{List, _∷_, _++_, ℕ}
-use Rattle.frame.specs.Refusals.{numberOf}
+use Rattle.frame_refusals.specs.Refusals.{numberOf}
 use Rattle.replay_reply_parts.specs.Lines.{ended}
 use Rattle.frame.specs.declared.Refusal.{Refusal}
 use Rattle.station.specs.declared.Ticked.{Ticked}

@@ -32,7 +32,12 @@ pub fn put_refused(refusal: Refusal, output: &mut [u8]) -> usize
     ensures { λ _. ⌜ now (output .exit) ≡ pasted (now (output .entry)) 0 (refusedText refusal) ⌝ }
 {
     let word = put_word(b"refused", output, 0);
-    let end = put_number(b' ', frame::number_of(refusal) as u32, output, word);
+    let end = put_number(
+        b' ',
+        frame_refusals::number_of(refusal) as u32,
+        output,
+        word,
+    );
     put_mark(b'\n', output, end)
 }
 

@@ -44,7 +44,7 @@ pub fn start_answer(phase: Phase, own: Settings) -> Switched
     ensures { λ r. ⌜ r ≡ startAnswer phase own ⌝ }
 {
     let areas = own.areas;
-    if !phases::is_off(phase) {
+    if !state_tests::is_off(phase) {
         return Switched::Refused(Refusal::NotDue);
     }
     if !is_numbered(own) {
@@ -72,7 +72,7 @@ pub fn stop(station: Station) -> Switching
     ensures { λ r. ⌜ r .answer ≡ stopOf station .answer ⌝ }
 {
     let phase = station.phase;
-    if phases::is_off(phase) {
+    if state_tests::is_off(phase) {
         return refused(station, Refusal::NotDue);
     }
     done(phases::stopped(station))

@@ -6,4 +6,3 @@ pub mod Ticked
 pub mod Heard
 pub mod Asked
 pub mod PanelIsGap
-pub mod Cases

@@ -7,9 +7,9 @@ use station::Settings;
 use station::Station;
 use station::Ticked;
 use units::Ticks;
-pub use waits::wait_ends;
-pub use waits::waited_then;
-pub use waits::watch_ends;
+use waits::wait_ends;
+use waits::waited_then;
+use waits_watch::watch_ends;
 ghost use Rattle.laws.specs.Usual.{_≡_, cond, _&&_};
 ghost use Rattle.members.specs.Members.{numbersOf, isListed, strikes};
 ghost use Rattle.station.specs.Rules.Data.{without as withoutOf};
@@ -66,7 +66,7 @@ fn startup_tick(station: Station, elapsed: Ticks) -> Station
 {
     let own = station.own;
     let members = station.members;
-    let limit = phases::acceptance_time();
+    let limit = waits_lengths::acceptance_time();
     if limit.0 <= elapsed.0 {
         return start_up(own, members);
     }
@@ -81,7 +81,7 @@ fn joining_tick(station: Station, elapsed: Ticks) -> Station
     ensures { λ r. ⌜ r ≡ joiningTick station elapsed ⌝ }
 {
     let own = station.own;
-    let limit = phases::detection_wait();
+    let limit = waits_lengths::detection_wait();
     if limit.0 <= elapsed.0 {
         return phases::fresh(Phase::Listening, own);
     }
@@ -100,7 +100,7 @@ fn left(station: Station) -> Gathering
     let gathering = station.gathering;
     let view = station.view;
     if members::is_listed(members, view) & members_misses::strikes(members, view) {
-        phases::without(view, gathering)
+        state_parts::without(view, gathering)
     } else {
         gathering
     }
@@ -144,7 +144,7 @@ fn listening_tick(station: Station) -> Station
     let before = station.elapsed;
     let waited = station.waited;
     let panel = station.panel;
-    let elapsed = phases::later(phases::listening_time(own.number), before);
+    let elapsed = waits::later(waits_lengths::listening_time(own.number), before);
     count(station, own, elapsed, waited, panel)
 }
 
@@ -156,11 +156,17 @@ fn tick_on(station: Station) -> Station
     match phase {
         Phase::Off => station,
         Phase::Listening => listening_tick(station),
-        Phase::Startup => startup_tick(station, phases::later(phases::acceptance_time(), elapsed)),
-        Phase::Joining => joining_tick(station, phases::later(phases::detection_wait(), elapsed)),
+        Phase::Startup => startup_tick(
+            station,
+            waits::later(waits_lengths::acceptance_time(), elapsed),
+        ),
+        Phase::Joining => joining_tick(
+            station,
+            waits::later(waits_lengths::detection_wait(), elapsed),
+        ),
         Phase::Participating => participant_tick(
             station,
-            phases::later(phases::longest_watch(), elapsed),
+            waits::later(waits_watch::longest_watch(), elapsed),
         ),
     }
 }

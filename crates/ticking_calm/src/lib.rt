@@ -68,7 +68,7 @@ fn waited_by(number: u8, rounds: u8, count: u32, waited: Ticks) -> Ticks
     ensures { λ r. ⌜ r ≡ cond (eqb rounds 3) (laterBy (numberWait number) count waited) waited ⌝ }
 {
     if rounds == 3 {
-        later_by(waits::number_wait(number), count, waited)
+        later_by(waits_lengths::number_wait(number), count, waited)
     } else {
         waited
     }
@@ -84,22 +84,22 @@ pub fn counts_after(phase: Phase, number: u8, rounds: u8, count: u32, counts: Co
     match phase {
         Phase::Off => counts,
         Phase::Listening => Counts {
-            elapsed: later_by(waits::listening_time(number), count, elapsed),
+            elapsed: later_by(waits_lengths::listening_time(number), count, elapsed),
             waited,
             panel,
         },
         Phase::Startup => Counts {
-            elapsed: later_by(waits::acceptance_time(), count, elapsed),
+            elapsed: later_by(waits_lengths::acceptance_time(), count, elapsed),
             waited,
             panel,
         },
         Phase::Joining => Counts {
-            elapsed: later_by(waits::detection_wait(), count, elapsed),
+            elapsed: later_by(waits_lengths::detection_wait(), count, elapsed),
             waited: waited_by(number, rounds, count, waited),
             panel,
         },
         Phase::Participating => Counts {
-            elapsed: later_by(waits::longest_watch(), count, elapsed),
+            elapsed: later_by(waits_watch::longest_watch(), count, elapsed),
             waited,
             panel: panel_by(count, panel),
         },

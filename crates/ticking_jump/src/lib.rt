@@ -41,7 +41,7 @@ fn go_round(time: Milliseconds, counts: Counts, count: u32) -> Counts
     ensures { λ r. ⌜ r ≡ roundAfter time counts count ⌝ }
 {
     let before = counts.elapsed;
-    let watch = waits::watch_ticks(time);
+    let watch = waits_watch::watch_ticks(time);
     let place = (before.0 as u64 + count as u64) % watch.0 as u64;
     let after = ticking_calm::counts_after(Phase::Participating, 0, 0, count, counts);
     let elapsed = Ticks(place as u32);
@@ -61,7 +61,7 @@ pub fn jump(
     ensures { λ r. ⌜ r ≡ jumpIn alone phase number time rounds counts count ⌝ }
 {
     let elapsed = counts.elapsed;
-    let watch = waits::watch_ticks(time);
+    let watch = waits_watch::watch_ticks(time);
     if alone & (elapsed.0 < watch.0) {
         return Jumped {
             counts: go_round(time, counts, count),

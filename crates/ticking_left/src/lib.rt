@@ -37,7 +37,7 @@ fn before_request(awaited: bool, request: u32, ticks: u32) -> u32
 fn runs(number: u8, count: Ticks) -> bool
     ensures { λ r. ⌜ r ≡ runsOf number count ⌝ }
 {
-    let wait = waits::number_wait(number);
+    let wait = waits_lengths::number_wait(number);
     count.0 < wait.0
 }
 
@@ -45,16 +45,24 @@ fn startup_left(number: u8, sent: bool, elapsed: Ticks) -> u32
     ensures { λ r. ⌜ r ≡ beforeRequest (not sent && runsOf number elapsed) (beforeOf (numberWait number) (elapsed .0)) (beforeOf acceptanceTime (elapsed .0)) ⌝ }
 {
     let awaited = !sent & runs(number, elapsed);
-    let request = before(waits::number_wait(number), elapsed);
-    before_request(awaited, request, before(waits::acceptance_time(), elapsed))
+    let request = before(waits_lengths::number_wait(number), elapsed);
+    before_request(
+        awaited,
+        request,
+        before(waits_lengths::acceptance_time(), elapsed),
+    )
 }
 
 fn joining_left(number: u8, rounds: u8, elapsed: Ticks, waited: Ticks) -> u32
     ensures { λ r. ⌜ r ≡ beforeRequest (eqb rounds 3 && runsOf number waited) (beforeOf (numberWait number) (waited .0)) (beforeOf detectionWait (elapsed .0)) ⌝ }
 {
     let awaited = (rounds == 3) & runs(number, waited);
-    let request = before(waits::number_wait(number), waited);
-    before_request(awaited, request, before(waits::detection_wait(), elapsed))
+    let request = before(waits_lengths::number_wait(number), waited);
+    before_request(
+        awaited,
+        request,
+        before(waits_lengths::detection_wait(), elapsed),
+    )
 }
 
 // The ticks before the next end in a phase, where the watch runs for a time.
@@ -71,9 +79,9 @@ pub fn left_in(
 {
     match phase {
         Phase::Off => 0,
-        Phase::Listening => before(waits::listening_time(number), elapsed),
+        Phase::Listening => before(waits_lengths::listening_time(number), elapsed),
         Phase::Startup => startup_left(number, sent, elapsed),
         Phase::Joining => joining_left(number, rounds, elapsed, waited),
-        Phase::Participating => before(waits::watch_ticks(time), elapsed),
+        Phase::Participating => before(waits_watch::watch_ticks(time), elapsed),
     }
 }

@@ -20,7 +20,7 @@ fn is_alone(station: Station) -> bool
     let own = station.own;
     let members = station.members;
     let number = own.number;
-    if !(phases::is_participating(phase) & phases::holds(station)) {
+    if !(state_tests::is_participating(phase) & state_tests::holds(station)) {
         return false;
     }
     let next = members_searching::next_after(number, members, number);

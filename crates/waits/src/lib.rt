@@ -1,13 +1,6 @@
-// A wait counted tick by tick, and when it ends; with the lengths of the waits and the watch.
+// A wait counted tick by tick, and when it ends.
 use units::Ticks;
-pub use waits_lengths::acceptance_time;
-pub use waits_lengths::detection_wait;
-pub use waits_lengths::listening_time;
-pub use waits_lengths::number_wait;
-pub use waits_watch::longest_watch;
-pub use waits_watch::watch_ends;
-pub use waits_watch::watch_ticks;
-pub use waits_watch::watch_time;
+use waits_lengths::number_wait;
 ghost use Rattle.laws.specs.Usual.{_≡_, _+_};
 ghost use Rattle.station.specs.Rules.Ticking.{later as laterOf, waitEnds, waitedThen};
 

@@ -7,7 +7,7 @@ use Rattle.boundary_bare.specs.Bare.{bare-asked}
 use Rattle.boundary_core.specs.Crossing.{coreOf, stationIn, stationOf}
 use Rattle.boundary_core.specs.declared.Core.{Core}
 use Rattle.boundary_lists.specs.Lists.{membersIn}
-use Rattle.boundary_participant.specs.Quick.{holdsBlock}
+use Rattle.boundary_holder.specs.Held.{holdsBlock}
 use Rattle.boundary_places.specs.Laws.{core-in-back, left-alone}
 use Rattle.boundary_places.specs.Places.{coreIn}
 use Rattle.boundary_due.specs.Due.{dueCore, askRefusal, refused-asked}

@@ -2,7 +2,7 @@
 use Rattle.laws.specs.Usual.{sym, ap, needs}
 use Rattle.boundary_core.specs.Crossing.{stationOf}
 use Rattle.boundary_lists.specs.Lists.{membersIn}
-use Rattle.boundary_participant.specs.Quick.{held-asked}
+use Rattle.boundary_holder.specs.Held.{held-asked}
 use Rattle.boundary_places.specs.Laws.{put-in}
 use Rattle.station.specs.Rules.Asking.{Asking, askOf}
 use Rattle.boundary_asking.proofs.ask_block.Statement.{statement}

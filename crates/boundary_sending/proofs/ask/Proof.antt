@@ -1,5 +1,5 @@
 -- `boundary_sending::ask` meets its contract.
-use Rattle.boundary_participant.specs.Quick.{sentCore}
+use Rattle.boundary_holder.specs.Held.{sentCore}
 use Rattle.boundary_answers.specs.Numbers.{frameAnswer, askedAnswer}
 use Rattle.boundary_core.specs.Crossing.{coreOf, stationOf}
 use Rattle.boundary_told.specs.Routes.{told-asked}
@@ -11,7 +11,7 @@ use borrow.Author.Tests.{eqb-true, leb-true}
 use Rattle.laws.specs.Tests.{first, second}
 use Rattle.boundary_lists.specs.Laws.{next-in}
 use Rattle.boundary_lists.specs.Lists.{membersIn}
-use Rattle.boundary_participant.specs.Quick.{held-placed, held-asked}
+use Rattle.boundary_holder.specs.Held.{held-placed, held-asked}
 use Rattle.boundary_sending.proofs.ask.Statement.{statement}
 use Rattle.boundary_sending.proofs.ask.Tie as tie
 

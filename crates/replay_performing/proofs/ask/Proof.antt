@@ -1,7 +1,7 @@
 -- `replay_performing::ask` meets its contract.
 use Rattle.laws.specs.Usual.{ap, ap₂, _∙_, length, needs}
 use Rattle.copying.specs.Pasted.{pasted}
-use Rattle.replay_replies.specs.Replies.{askedText}
+use Rattle.replay_reply_asked.specs.Asked.{askedText}
 use Rattle.replay_performing.proofs.ask.Statement.{statement}
 use Rattle.replay_performing.proofs.ask.Tie as tie
 
