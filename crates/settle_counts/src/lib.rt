@@ -108,7 +108,8 @@ fn carry(old: [u16; 256], moves: &[u8]) -> [u16; 256]
     numbers
 }
 
-// A silence: every number goes to where its view goes. That there are 256 numbers, the caller's proof is not told.
+// A silence: every number goes to where its view goes. The last line is for the caller's proof, which is not told how many numbers there
+// are.
 pub fn silence_counts(numbers: &mut [u16; 256], moves: &[u8; 256]) -> u32
     ensures { λ r. ⌜ r ≡ aboveZero (carriedNumbers (λ view. getD (now (moves .entry)) view 0) (now (numbers .entry))) ⌝ }
     ensures { λ _. ⌜ now (numbers .exit) ≡ carriedNumbers (λ view. getD (now (moves .entry)) view 0) (now (numbers .entry)) ⌝ }
