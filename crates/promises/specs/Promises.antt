@@ -61,7 +61,7 @@ use Rattle.settle_rest.specs.Whole.{outputOf}
 use Rattle.settle_run.specs.Run.{isRing, settledOf, Bounded}
 use Rattle.settle_run.specs.Running.{runningOf}
 use Rattle.settle_run.specs.Counted.{runningAfter, RightCounts, counts-run}
-use Rattle.settle_run.specs.Whole.{Whole as WholeRun, settled-run, settled-bounded}
+use Rattle.settle_run.specs.Whole.{Whole as WholeRun, stepsFrom, settled-run, settled-bounded}
 use Rattle.settle_counts.specs.Counts.{countsOf, carried}
 use Rattle.settle_counts.specs.Kept.{counts-kept}
 use Rattle.settle_counts.specs.Total.{total-different}
@@ -69,6 +69,7 @@ use Rattle.settle_moves.specs.Moves.{viewAfter, moved}
 use Rattle.settling.specs.First.{FirstAgreement}
 use Rattle.settling.specs.Ring.{_∈_, Ascending, Views, Within, Agreed, move, Run}
 use Rattle.settling.specs.Ring as theory
+use Rattle.settling.specs.Steps as theorySteps
 use Rattle.settling.specs.Settling.{Settles, settles}
 use Rattle.settling.specs.Steps.{afterAll, EachFinds}
 use Rattle.station.specs.Rules.Answers.{dataOf}
@@ -473,13 +474,15 @@ pub settle-adjusts : {ring : Ring} → length (ring .views) ≡ 256 → Proper r
     → theory.Legal (stationsOf ring) (viewsOf ring) event → carried (viewAfter (stationsOf ring) event) (countsOf ring) ≡ countsOf (moved ring event)
 settle-adjusts = counts-kept
 
--- so after each step of the run every number that is held is the count of stations with that view, and the total the count of numbers above 0;
+-- so after each step of the run it is at the ring that these steps leave, every number that is held is the count of stations with that view, and
+-- the total the count of numbers above 0;
 pub settle-counts : (ring : Ring) → length (ring .views) ≡ 256 → isRing ring ≡ true → 0 < length (stationsOf ring)
-    → (steps : ℕ) → RightCounts (runningAfter steps (runningOf ring))
+    → (steps : ℕ) → RightCounts (theorySteps.afterAll moved ring (stepsFrom steps ring)) (runningAfter steps (runningOf ring))
 settle-counts = counts-run
 
 -- for every input that gives a ring, of the run that is printed,
-pub settle-counts-read : (octets : List ℕ) → ringRead octets .verdict ≡ verdicts.Ring → (steps : ℕ) → RightCounts (runningAfter steps (printingOf octets .running))
+pub settle-counts-read : (octets : List ℕ) → ringRead octets .verdict ≡ verdicts.Ring
+    → (steps : ℕ) → RightCounts (theorySteps.afterAll moved (ringRead octets .ring) (stepsFrom steps (ringRead octets .ring))) (runningAfter steps (printingOf octets .running))
 settle-counts-read = counts-read
 
 -- the total is the number of different views, in every ring of octets,

@@ -2,13 +2,14 @@
 use Rattle.laws.specs.Usual.{_≡_, refl, ap, ap₂, _∙_, Bool, true, false, cond, List, [], _∷_, _++_, ℕ, suc, _+_, length}
 use Prim.Native.Nat.{zero}
 use borrow.Author.Tests.{eq-eqb}
+use Rattle.settling.specs.Steps.{afterAll}
 use Rattle.settle_views.specs.Views.{stationsOf, viewsOf}
 use Rattle.settle_views.specs.declared.Ring.{Ring}
 use Rattle.settle_moves.specs.Moves.{moved}
 use Rattle.settle_counts.specs.Kept.{views-small}
 use Rattle.settle_run.specs.Run.{eventIn, agreedIn, runFrom, isRing, limitOf, runOf}
 use Rattle.settle_run.specs.Running.{runningOf, onward}
-use Rattle.settle_run.specs.Whole.{differs, some-station, proper-ring, steps}
+use Rattle.settle_run.specs.Whole.{differs, some-station, proper-ring, steps, stepsFrom}
 use Rattle.settle_run.specs.Counted.{Held, runningAfter, RightCounts, counts-run, held-start, held-agreed, held-onward, held-step, run-ends}
 use Rattle.settle_run.specs.declared.Running.{Running}
 use Rattle.settle_run.specs.declared.Settled.{Settled}
@@ -50,7 +51,8 @@ settled-ring : (octets : List ℕ) → readOf octets .verdict ≡ verdicts.Ring 
 settled-ring octets e = let g = ring-read octets e in rw (eq-eqb _ _ (g .listed), eq-eqb _ _ (g .nobody))
 
 -- and the counts that are held while it is printed are those of its ring, after each step
-pub counts-read : (octets : List ℕ) → readOf octets .verdict ≡ verdicts.Ring → (steps : ℕ) → RightCounts (runningAfter steps (printingOf octets .running))
+pub counts-read : (octets : List ℕ) → readOf octets .verdict ≡ verdicts.Ring
+    → (steps : ℕ) → RightCounts (afterAll moved (readOf octets .ring) (stepsFrom steps (readOf octets .ring))) (runningAfter steps (printingOf octets .running))
 unfolding printingOf
 counts-read octets e steps =
     let g = ring-read octets e in

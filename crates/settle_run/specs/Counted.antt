@@ -23,7 +23,7 @@ use Rattle.settle_run.specs.declared.Stepped.{Stepped}
 use Rattle.settle_run.specs.Run.{eventIn, steppedBy, steppedOf, agreedIn, runFrom, isRing, limitOf, runOf, settledOf}
 use Rattle.settle_run.specs.Running.{numbersAfter, added, runningOf, runningIn, hasEnded, countsIn, nextStep, onward, endFrom}
 use Rattle.settle_run.specs.Holders.{step-legal}
-use Rattle.settle_run.specs.Whole.{differs, some-station, proper-ring}
+use Rattle.settle_run.specs.Whole.{differs, some-station, proper-ring, stepsFrom}
 
 -- the total after a step, whatever its kind
 step-views : (settled : Settled) (ring : Ring) (views : ℕ) (event : Event) → added settled (steppedBy ring views event) .views ≡ views
@@ -81,29 +81,36 @@ held-after : (steps : ℕ) (running : Running) → Held running → 0 < length (
 held-after zero running h some = h
 held-after (suc steps) running h some = held-after steps (onward running) (held-onward h some) (held-some h some)
 
--- What the counts of a run are.
-pub record RightCounts (running : Running) : Type 0 where
+-- What a run holds that is at a ring.
+pub record RightCounts (ring : Ring) (running : Running) : Type 0 where
+  pub at : running .ring ≡ ring
   -- "every number is proved to be the count of stations with that view"
-  pub number : (view : ℕ) → view < 256 → getD (running .numbers) view 0 ≡ countIn view (viewsIn (running .ring))
+  pub number : (view : ℕ) → view < 256 → getD (running .numbers) view 0 ≡ countIn view (viewsIn ring)
   -- "and the total the count of numbers above 0"
   pub total : running .settled .views ≡ aboveZero (running .numbers)
   -- which is the number of different views
-  pub different : running .settled .views ≡ differentViews (stationsOf (running .ring)) (viewsOf (running .ring))
+  pub different : running .settled .views ≡ differentViews (stationsOf ring) (viewsOf ring)
 
--- "After each" step of the run of a ring, however many.
-pub counts-run : (ring : Ring) → length (ring .views) ≡ 256 → isRing ring ≡ true → 0 < length (stationsOf ring)
-    → (steps : ℕ) → RightCounts (runningAfter steps (runningOf ring))
-counts-run ring size is some steps = record {
-  number = λ view low. ap (λ (c : Counts). getD (c .numbers) view 0) (h .counts) ∙ at-each (λ v. countIn v (viewsIn (now .ring))) 256 view low;
+right-counts : {running : Running} → Held running → RightCounts (running .ring) running
+right-counts {running} h = record {
+  at = refl;
+  number = λ view low. ap (λ (c : Counts). getD (c .numbers) view 0) (h .counts) ∙ at-each (λ v. countIn v (viewsIn (running .ring))) 256 view low;
   total = ap (λ (c : Counts). c .total) (h .counts) ∙ ap (λ (c : Counts). aboveZero (c .numbers)) (sym (h .counts));
   different = held-total h;
 }
-  where
-    now : Running
-    now = runningAfter steps (runningOf ring)
 
-    h : Held now
-    h = held-after steps (runningOf ring) (held-start ring size is) some
+-- the ring that it is at after so many steps is the one that the definition's steps leave
+ring-after : (steps : ℕ) (running : Running) → runningAfter steps running .ring ≡ afterAll moved (running .ring) (stepsFrom steps (running .ring))
+unfolding stepsFrom
+ring-after zero running = refl
+ring-after (suc steps) running = ring-after steps (onward running)
+
+-- "After each" step of the run of a ring, however many, it is at the ring that these steps leave, with the counts of that ring.
+pub counts-run : (ring : Ring) → length (ring .views) ≡ 256 → isRing ring ≡ true → 0 < length (stationsOf ring)
+    → (steps : ℕ) → RightCounts (afterAll moved ring (stepsFrom steps ring)) (runningAfter steps (runningOf ring))
+counts-run ring size is some steps =
+    subst (λ (last : Ring). RightCounts last (runningAfter steps (runningOf ring))) (ring-after steps (runningOf ring))
+    (right-counts (held-after steps (runningOf ring) (held-start ring size is) some))
 
 -- a run whose parts were advanced by a step is the run after it
 pub advanced : (running : Running) {views numbers : List ℕ} {stepped : Stepped} {settled : Settled} {left : ℕ}
