@@ -20,12 +20,12 @@ aboveZero [] = 0
 aboveZero (number ∷ rest) = cond (eqb number 0) (aboveZero rest) (suc (aboveZero rest))
 
 -- numbers with their total
-abbrev pub totalled : List ℕ → Counts
-totalled numbers = record { numbers = numbers; total = aboveZero numbers }
+abbrev pub withTotal : List ℕ → Counts
+withTotal numbers = record { numbers = numbers; total = aboveZero numbers }
 
 -- "a running number for each view and the total", as a ring has them. No station has the view 0.
 abbrev pub countsOf : Ring → Counts
-countsOf ring = totalled (each (λ view. countIn view (viewsIn ring)) 0 256)
+countsOf ring = withTotal (each (λ view. countIn view (viewsIn ring)) 0 256)
 
 -- the sum of those numbers that a test picks by their view, the first of them the number of `view`
 abbrev pub sumOf : (ℕ → Bool) → ℕ → List ℕ → ℕ
@@ -42,4 +42,4 @@ carriedNumbers after numbers = each (λ to. min most (sumOf (λ view. eqb (after
 
 -- "adjust them at every pass and silence": the counts after an event that takes every view to `after` of it
 abbrev pub carried : (ℕ → ℕ) → Counts → Counts
-carried after counts = totalled (carriedNumbers after (counts .numbers))
+carried after counts = withTotal (carriedNumbers after (counts .numbers))

@@ -11,7 +11,7 @@ use Rattle.settle_views.specs.declared.Ring.{Ring}
 use Rattle.settle_moves.specs.Moves.{each, viewAfter, moved}
 use Rattle.settle_moves.specs.Moved.{moved-stations}
 use Rattle.settle_moves.specs.Each.{each-same}
-use Rattle.settle_counts.specs.Counts.{viewsIn, countIn, totalled, countsOf, sumOf, most, carried}
+use Rattle.settle_counts.specs.Counts.{viewsIn, countIn, withTotal, countsOf, sumOf, most, carried}
 use Rattle.settle_counts.specs.Carried.{Octets, count-most, count-carried}
 
 module _ {ring : Ring} (size : length (ring .views) ≡ 256) (p : Proper ring) where
@@ -61,7 +61,7 @@ module _ {ring : Ring} (size : length (ring .views) ≡ 256) (p : Proper ring) w
     -- "After each, every number is proved to be the count of stations with that view, and the total the count of numbers above 0."
     pub counts-kept : carried (viewAfter (stationsOf ring) event) (countsOf ring) ≡ countsOf (moved ring event)
     unfolding after
-    counts-kept = ap totalled (each-same _ _ 256 (λ to low. number to))
+    counts-kept = ap withTotal (each-same _ _ 256 (λ to low. number to))
       where
         number : (to : ℕ) → min most (sumOf (λ view. eqb (after view) to) 0 (each (λ view. countIn view (viewsIn ring)) 0 256)) ≡ countIn to (viewsIn (moved ring event))
         number to =

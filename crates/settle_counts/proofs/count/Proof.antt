@@ -2,7 +2,7 @@
 use Rattle.laws.specs.Usual.{_≡_, ap, _∙_, ℕ, _-_, _<_, _≤_, arith, getD, needs}
 use mir.Val.{Fits}
 use mir.Syntax.{w8}
-use Rattle.settle_counts.specs.Counts.{totalled}
+use Rattle.settle_counts.specs.Counts.{withTotal}
 use Rattle.settle_counts.specs.Loops.{Counting, counting-none, counting-skip, counting-more, counting-all}
 use Rattle.settle_counts.proofs.count.Statement.{statement}
 use Rattle.settle_counts.proofs.count.Tie as tie
@@ -71,7 +71,7 @@ returns : tie.Need-returns Inv-loop μ-loop
 returns c =
     let loop = c .before .before .before .loop in
     let none : loop .station ≡ 0 = omega arith in
-    ap (λ (n : ℕ). record { numbers = loop .numbers; total = n }) (c .above-zero .ensures) ∙ ap totalled (counting-all none (loop .inv .0))
+    ap (λ (n : ℕ). record { numbers = loop .numbers; total = n }) (c .above-zero .ensures) ∙ ap withTotal (counting-all none (loop .inv .0))
 
 pub count-spec : {M : Type 1} → statement M
 count-spec =
