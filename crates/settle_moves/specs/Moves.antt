@@ -2,7 +2,7 @@
 use Rattle.laws.specs.Usual.{cond, List, [], _∷_, map, ℕ, suc, min, eqb}
 use Prim.Native.Nat.{zero}
 use Rattle.settling.specs.Ring.{Event, silence, move}
-use Rattle.settle_views.specs.Views.{ringOf, stationsOf}
+use Rattle.settle_views.specs.Views.{ringWith, stationsOf}
 use Rattle.settle_views.specs.declared.Ring.{Ring}
 
 -- the first listed station among views that start at the station `number`, or `otherwise` where there is none
@@ -30,4 +30,4 @@ each f number (suc count) = f number ∷ each f (suc number) count
 
 -- where each view goes in a silence, in a ring of these views
 abbrev pub movesInSilence : List ℕ → List ℕ
-movesInSilence views = each (viewAfter (stationsOf (ringOf views)) silence) 0 256
+movesInSilence views = each (viewAfter (stationsOf (ringWith views)) silence) 0 256

@@ -1,7 +1,7 @@
 // What a pass and a silence do to the views of a ring, in place.
 ghost use Rattle.laws.specs.Usual.{_≡_, cond, _≤_, map, length, drop, ltb};
 ghost use Rattle.settling.specs.Ring.{next, silence};
-ghost use Rattle.settle_views.specs.Views.{ringOf, stationsOf};
+ghost use Rattle.settle_views.specs.Views.{ringWith, stationsOf};
 ghost use Rattle.settle_moves.specs.Moves.{firstListed, passedView, moved, movesInSilence};
 
 // The first listed number that is not below `from`.
@@ -20,7 +20,7 @@ fn first_listed(views: &[u8], from: usize, otherwise: usize) -> usize
 }
 
 pub fn next_after(views: &[u8; 256], number: u8) -> u8
-    ensures { λ r. ⌜ r ≡ next (stationsOf (ringOf (now (views .entry)))) number ⌝ }
+    ensures { λ r. ⌜ r ≡ next (stationsOf (ringWith (now (views .entry)))) number ⌝ }
 {
     let smallest = first_listed(views, 0, number as usize);
     first_listed(views, number as usize + 1, smallest) as u8
@@ -76,7 +76,7 @@ fn silence_moves(views: &[u8; 256]) -> [u8; 256]
 
 fn move_views(views: &mut [u8], moves: &[u8; 256])
     requires { ⌜ now moves ≡ movesInSilence (now views) ⌝ }
-    ensures { λ _. ⌜ ringOf (now (views .exit)) ≡ moved (ringOf (now (views .entry))) silence ⌝ }
+    ensures { λ _. ⌜ ringWith (now (views .exit)) ≡ moved (ringWith (now (views .entry))) silence ⌝ }
 {
     let mut station: usize = 0;
     while station < views.len() {
@@ -88,7 +88,7 @@ fn move_views(views: &mut [u8], moves: &[u8; 256])
 // A silence, and where each view goes in it. The next of every view is found once, and not again for each station.
 pub fn silence_views(views: &mut [u8; 256]) -> [u8; 256]
     ensures { λ r. ⌜ r ≡ movesInSilence (now (views .entry)) ⌝ }
-    ensures { λ _. ⌜ ringOf (now (views .exit)) ≡ moved (ringOf (now (views .entry))) silence ⌝ }
+    ensures { λ _. ⌜ ringWith (now (views .exit)) ≡ moved (ringWith (now (views .entry))) silence ⌝ }
 {
     let moves = silence_moves(views);
     move_views(views, &moves);

@@ -6,7 +6,7 @@ use borrow.Author.Tests.{ne-eqb}
 use lib.ListN.{length-map}
 use Rattle.settling.specs.Steps.{afterAll}
 use Rattle.settling.specs.Ring.{Event, pass, silence, Legal, passes, silences}
-use Rattle.settle_views.specs.Views.{ringOf, stationsOf, viewsOf, differentViews}
+use Rattle.settle_views.specs.Views.{ringWith, stationsOf, viewsOf, differentViews}
 use Rattle.settle_views.specs.Listed.{few-stations}
 use Rattle.settle_views.specs.Proper.{Proper, not-zero}
 use Rattle.settle_views.specs.declared.Ring.{Ring}
@@ -114,7 +114,7 @@ counts-run ring size is some steps =
 
 -- a run whose parts were advanced by a step is the run after it
 pub advanced : (running : Running) {views numbers : List ℕ} {stepped : Stepped} {settled : Settled} {left : ℕ}
-    → (stepped ≡ nextStep running) × ((ringOf views ≡ moved (running .ring) (eventIn (running .ring))) × (numbers ≡ numbersAfter (running .ring) (running .numbers)))
+    → (stepped ≡ nextStep running) × ((ringWith views ≡ moved (running .ring) (eventIn (running .ring))) × (numbers ≡ numbersAfter (running .ring) (running .numbers)))
     → settled ≡ added (running .settled) stepped → left ≡ running .left - 1 → runningIn views numbers settled left ≡ onward running
 advanced running (made, (ring, numbers)) settled left =
     λ i. record { ring = ring i; numbers = numbers i; settled = (settled ∙ ap (added (running .settled)) made) i; left = left i }

@@ -2,7 +2,7 @@
 -- adjust them at every pass and silence".
 use Rattle.laws.specs.Usual.{Bool, cond, _||_, List, ℕ, suc, _+_, _-_, min, eqb, leb}
 use Prim.Native.Nat.{zero}
-use Rattle.settle_views.specs.Views.{ringOf, stationsOf}
+use Rattle.settle_views.specs.Views.{ringWith, stationsOf}
 use Rattle.settle_views.specs.declared.Ring.{Ring}
 use Rattle.settle_moves.specs.Moves.{viewAfter, moved}
 use Rattle.settle_counts.specs.Counts.{aboveZero, countsOf, carriedNumbers}
@@ -45,7 +45,7 @@ runningOf ring = record {
 
 -- a run by its parts
 abbrev pub runningIn : List ℕ → List ℕ → Settled → ℕ → Running
-runningIn views numbers settled left = record { ring = ringOf views; numbers = numbers; settled = settled; left = left }
+runningIn views numbers settled left = record { ring = ringWith views; numbers = numbers; settled = settled; left = left }
 
 -- the counts that it holds
 abbrev pub countsIn : Running → Counts

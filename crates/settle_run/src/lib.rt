@@ -2,7 +2,7 @@
 use settle_views::Ring;
 ghost use Rattle.laws.specs.Usual.{_≡_, length};
 ghost use Rattle.settle_moves.specs.Moves.{moved};
-ghost use Rattle.settle_views.specs.Views.{ringOf, stationsOf};
+ghost use Rattle.settle_views.specs.Views.{ringWith, stationsOf};
 ghost use Rattle.settle_run.specs.Run.{eventIn, isRing, limitOf, settledOf, Bounded};
 ghost use Rattle.settle_run.specs.Running.{numbersAfter, steppedWith, oneMore, added, runningOf, hasEnded};
 
@@ -37,9 +37,9 @@ pub struct Running {
 
 // One step, made in place.
 pub fn step(views: &mut [u8; 256], numbers: &mut [u16; 256]) -> Stepped
-    ensures { λ r. ⌜ r ≡ steppedWith (ringOf (now (views .entry))) (now (numbers .entry)) ⌝ }
-    ensures { λ _. ⌜ ringOf (now (views .exit)) ≡ moved (ringOf (now (views .entry))) (eventIn (ringOf (now (views .entry)))) ⌝ }
-    ensures { λ _. ⌜ now (numbers .exit) ≡ numbersAfter (ringOf (now (views .entry))) (now (numbers .entry)) ⌝ }
+    ensures { λ r. ⌜ r ≡ steppedWith (ringWith (now (views .entry))) (now (numbers .entry)) ⌝ }
+    ensures { λ _. ⌜ ringWith (now (views .exit)) ≡ moved (ringWith (now (views .entry))) (eventIn (ringWith (now (views .entry)))) ⌝ }
+    ensures { λ _. ⌜ now (numbers .exit) ≡ numbersAfter (ringWith (now (views .entry))) (now (numbers .entry)) ⌝ }
 {
     let holder = settle_views::smallest_holder(views);
     if holder == 0 {

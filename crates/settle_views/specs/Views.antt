@@ -9,8 +9,8 @@ stationsFrom number [] = []
 stationsFrom number (view ∷ views) = cond (eqb view 0) (stationsFrom (suc number) views) (number ∷ stationsFrom (suc number) views)
 
 -- the ring of these views
-abbrev pub ringOf : List ℕ → Ring
-ringOf views = record { views = views }
+abbrev pub ringWith : List ℕ → Ring
+ringWith views = record { views = views }
 
 abbrev pub stationsOf : Ring → List ℕ
 stationsOf ring = stationsFrom 0 (ring .views)

@@ -1,6 +1,6 @@
 // A ring of token views alone, and what is looked up in it.
 ghost use Rattle.laws.specs.Usual.{_≡_, length};
-ghost use Rattle.settle_views.specs.Views.{ringOf, stationsOf, viewsOf, smallestHolder, unlistedIn};
+ghost use Rattle.settle_views.specs.Views.{ringWith, stationsOf, viewsOf, smallestHolder, unlistedIn};
 
 // The view of each station number, 0 where no such station is listed.
 pub struct Ring {
@@ -25,7 +25,7 @@ pub fn stations(ring: Ring) -> u32
 
 // The smallest station that holds, or 0 if none does.
 pub fn smallest_holder(views: &[u8]) -> u8
-    ensures { λ r. ⌜ r ≡ smallestHolder (stationsOf (ringOf (now (views .entry)))) (viewsOf (ringOf (now (views .entry)))) ⌝ }
+    ensures { λ r. ⌜ r ≡ smallestHolder (stationsOf (ringWith (now (views .entry)))) (viewsOf (ringWith (now (views .entry)))) ⌝ }
 {
     let mut number: usize = 1;
     while number < views.len() {

@@ -2,7 +2,7 @@
 use Rattle.laws.specs.Usual.{_≡_, refl, ap, _∙_, List, ℕ, _-_, _<_, arith, length, getD, set, needs}
 use lib.ListN.{length-set}
 use Rattle.settling.specs.Ring.{silence}
-use Rattle.settle_views.specs.Views.{ringOf, stationsFrom}
+use Rattle.settle_views.specs.Views.{ringWith, stationsFrom}
 use Rattle.settle_moves.specs.Moves.{viewAfter}
 use Rattle.settle_moves.specs.Each.{at-each}
 use Rattle.settle_moves.specs.Loops.{Mapped, mapped-more, mapped-all}
@@ -55,7 +55,7 @@ returns : tie.Need-returns Inv-loop μ-loop
 returns c =
     let views = c .before .before .args .views .now in
     let loop = c .before .loop in
-    ap ringOf (mapped-all (viewAfter (stationsFrom 0 views) silence) views (loop .views) (loop .station) (loop .inv .0) (omega (arith, loop .inv .1)))
+    ap ringWith (mapped-all (viewAfter (stationsFrom 0 views) silence) views (loop .views) (loop .station) (loop .inv .0) (omega (arith, loop .inv .1)))
 
 pub move-views-spec : {M : Type 1} → statement M
 move-views-spec =

@@ -2,7 +2,7 @@
 use Rattle.laws.specs.Usual.{_≡_, sym, ap, _∙_, Bool, cond, List, ℕ, arith, getD, map, needs}
 use borrow.Author.Tests.{eq-eqb, ne-eqb}
 use Rattle.settling.specs.Ring.{Event, pass, silence}
-use Rattle.settle_views.specs.Views.{ringOf, stationsOf}
+use Rattle.settle_views.specs.Views.{ringWith, stationsOf}
 use Rattle.settle_views.specs.declared.Ring.{Ring}
 use Rattle.settle_moves.specs.Moves.{passedView, viewAfter, moved}
 use Rattle.settle_moves.specs.Each.{at-each}
@@ -36,7 +36,7 @@ silence-counts-requires c κs = search needs
 returns : tie.Need-returns
 returns c =
     let a = c .before .before .before .before .before .before .before .before .before .args in
-    let ring = ringOf (a .views .now) in
+    let ring = ringWith (a .views .now) in
     let numbers = a .numbers .now in
     let silent = c .before .before .before .silence-views in
     let counts = c .silence-counts in
@@ -57,14 +57,14 @@ pass-counts-requires c κs = search needs
 returns-2 : tie.Need-returns-2
 returns-2 c =
     let a = c .before .before .before .before .before .before .before .before .before .before .args in
-    let ring = ringOf (a .views .now) in
+    let ring = ringWith (a .views .now) in
     let numbers = a .numbers .now in
     let holder = c .before .before .before .before .before .before .before .smallest-holder in
     let after = c .before .before .before .before .next-after .ensures in
     let counts = c .pass-counts .ensures in
     let some : eventIn ring ≡ pass (holder .result) = ap passBy (sym (holder .ensures)) ∙ ap (λ (t : Bool). cond t silence (pass (holder .result))) (ne-eqb _ _ (c .before .before .before .before .before .before .if1 .left)) in
     let goes = ap (λ (to : ℕ). carriedNumbers (λ view. passedView view (holder .result) to) numbers) after in
-    let views = ap ringOf (c .before .before .pass-views .ensures ∙ ap (λ (to : ℕ). map (λ (view : ℕ). passedView view (holder .result) to) (a .views .now)) after) in
+    let views = ap ringWith (c .before .before .pass-views .ensures ∙ ap (λ (to : ℕ). map (λ (view : ℕ). passedView view (holder .result) to) (a .views .now)) after) in
     let (first, rest) = told ring numbers (pass (holder .result)) some (counts .0 ∙ ap aboveZero goes) views (counts .1 ∙ goes) in
     (ap (λ (to : ℕ). record { kind = Pass; from = holder .result; to = to; views = c .pass-counts .result }) after ∙ first, rest)
 
