@@ -1,7 +1,7 @@
 -- The numbers lose nothing: each answer can be told from its numbers.
 use Rattle.laws.specs.Usual.{_≡_, refl, ap, cond, ℕ, eqb}
 use Rattle.frame_refusals.specs.Refusals.{numberOf}
-use Rattle.frame.specs.declared.Refusal.the-variants.{Cut, Mark, Length, Code, Address, Taken, Area, Block, Stranger, NotDue, Buffer, Total, Number}
+use Rattle.frame.specs.declared.Refusal.the-variants.{Cut, Mark, Length, Code, Address, Taken, Area, Block, Stranger, NotDue, Buffer, Message, Waiting, Total, Number}
 use Rattle.station.specs.Rules.Answers.{dataNumber, tokenNumber, dataOf}
 use Rattle.station.specs.declared.Asked.the-variants as asked
 use Rattle.station.specs.declared.Heard.the-variants as heard
@@ -22,7 +22,7 @@ use Rattle.boundary_answers.specs.declared.Answer.{Answer}
 -- the case of each number
 abbrev refusalOf : ℕ → Refusal
 refusalOf number =
-    cond (eqb number 1) Cut (cond (eqb number 2) Mark (cond (eqb number 3) Length (cond (eqb number 4) Code (cond (eqb number 5) Address (cond (eqb number 6) Taken (cond (eqb number 7) Area (cond (eqb number 8) Block (cond (eqb number 9) Stranger (cond (eqb number 10) NotDue (cond (eqb number 11) Buffer (cond (eqb number 14) Total Number)))))))))))
+    cond (eqb number 1) Cut (cond (eqb number 2) Mark (cond (eqb number 3) Length (cond (eqb number 4) Code (cond (eqb number 5) Address (cond (eqb number 6) Taken (cond (eqb number 7) Area (cond (eqb number 8) Block (cond (eqb number 9) Stranger (cond (eqb number 10) NotDue (cond (eqb number 11) Buffer (cond (eqb number 12) Message (cond (eqb number 13) Waiting (cond (eqb number 14) Total Number)))))))))))))
 
 refusal-kept : (refusal : Refusal) → refusalOf (numberOf refusal) ≡ refusal
 refusal-kept Cut = refl
@@ -36,6 +36,8 @@ refusal-kept Block = refl
 refusal-kept Stranger = refl
 refusal-kept NotDue = refl
 refusal-kept Buffer = refl
+refusal-kept Message = refl
+refusal-kept Waiting = refl
 refusal-kept Total = refl
 refusal-kept Number = refl
 

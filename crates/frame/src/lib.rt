@@ -112,6 +112,8 @@ pub enum Refusal {
     Stranger,
     NotDue,
     Buffer,
+    Message,
+    Waiting,
     Total,
     Number,
 }

@@ -18,6 +18,8 @@ pub fn number_of(refusal: Refusal) -> u8
         Refusal::Stranger => 9,
         Refusal::NotDue => 10,
         Refusal::Buffer => 11,
+        Refusal::Message => 12,
+        Refusal::Waiting => 13,
         Refusal::Total => 14,
         Refusal::Number => 15,
     }

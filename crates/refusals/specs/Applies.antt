@@ -8,7 +8,7 @@ use Rattle.frame.specs.Codes.{codeOf, isKnown, isToken, isCyclic, carriesAreas}
 use Rattle.frame.specs.Octets.{wordAt, longAt}
 use Rattle.frame.specs.Positions.{TFL, TCD}
 use Rattle.frame_refusals.specs.Refusals.{order}
-use Rattle.frame.specs.declared.Refusal.the-variants.{Cut, Mark, Length, Code, Address, Taken, Area, Block, Stranger, NotDue, Buffer, Total, Number}
+use Rattle.frame.specs.declared.Refusal.the-variants.{Cut, Mark, Length, Code, Address, Taken, Area, Block, Stranger, NotDue, Buffer, Message, Waiting, Total, Number}
 use Rattle.frame_reading.specs.Reading.{marked, codeIn, fieldsOf, isStation}
 use Rattle.station.specs.Rules.Asking.{dueIn}
 use Rattle.station.specs.Rules.Calls.{Call, start, stop, tick, hear, ask, Verdict, refusedBy, unrefused}
@@ -117,6 +117,10 @@ bufferApplies station tick = false
 bufferApplies station (hear octets memory assembly) = wrongLength memory || wrongLength assembly
 bufferApplies station (ask memory turn output) = (wrongLength memory || wrongLength turn) || ltb (length output) 1088
 
+-- 12 and 13 (E2) look at a message handed in, and none of these calls hands one in
+abbrev pub handedIn : Station → Call → Bool
+handedIn station call = false
+
 -- whether a refusal applies to a call in a state
 abbrev pub applies : Refusal → Station → Call → Bool
 applies Cut = cutApplies
@@ -130,6 +134,8 @@ applies Block = blockApplies
 applies Stranger = strangerApplies
 applies NotDue = notDueApplies
 applies Buffer = bufferApplies
+applies Message = handedIn
+applies Waiting = handedIn
 applies Total = totalApplies
 applies Number = numberApplies
 

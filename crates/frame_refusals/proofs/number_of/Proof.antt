@@ -42,6 +42,12 @@ enum-told-12 c = c .match .keys12
 enum-told-13 : tie.Need-enum-told-13
 enum-told-13 c = c .match .keys13
 
+enum-told-14 : tie.Need-enum-told-14
+enum-told-14 c = c .match .keys14
+
+enum-told-15 : tie.Need-enum-told-15
+enum-told-15 c = c .match .keys15
+
 returns : tie.Need-returns
 returns c = search needs
 
@@ -81,6 +87,12 @@ returns-12 c = search needs
 returns-13 : tie.Need-returns-13
 returns-13 c = search needs
 
+returns-14 : tie.Need-returns-14
+returns-14 c = search needs
+
+returns-15 : tie.Need-returns-15
+returns-15 c = search needs
+
 pub number-of-spec : {M : Type 1} → statement M
 number-of-spec =
     tie.close
@@ -98,6 +110,8 @@ number-of-spec =
     enum-told-11
     enum-told-12
     enum-told-13
+    enum-told-14
+    enum-told-15
     returns
     returns-2
     returns-3
@@ -110,4 +124,6 @@ number-of-spec =
     returns-10
     returns-11
     returns-12
-    returns-13)
+    returns-13
+    returns-14
+    returns-15)
