@@ -7,6 +7,7 @@ use Rattle.members.specs.Members.{cleared}
 use Rattle.misses.specs.CoverThird.{brought-more}
 use Rattle.misses.specs.MissHistory.{Brought}
 use Rattle.frame_reading.specs.Reading.{isStation, dataOf}
+use Rattle.settling.specs.Counting.{passed, nothing}
 use Rattle.settling.specs.Ring.{_∈_, next, viewAfterPass}
 use Rattle.station.specs.Rules.Asking as asking
 use Rattle.station.specs.Rules.Calls.{hear, ask}
@@ -19,7 +20,7 @@ use Rattle.station.specs.declared.Settings.{Settings}
 use Rattle.station.specs.declared.Station.{Station}
 use Rattle.station.specs.declared.Asked.{Asked}
 use Rattle.frame_writing.specs.Writing.{wholeLength}
-use Rattle.ring.specs.Counts.{tokenTo, givenBy, gives, Does, passed, nothing}
+use Rattle.ring.specs.Counts.{tokenTo, givenBy, gives, Does}
 use Rattle.ring.specs.Events.{Stations, Lent, Event, asked, handed, afterEvent, CanCome}
 use Rattle.ring.specs.Hears.{accepts}
 use Rattle.ring.specs.Member.{InRing, restarted-in, cleared-kept, cleared-times, sent-in}
@@ -189,7 +190,7 @@ module _ (numbers : List ℕ) (laws-next : (x : ℕ) → x ∈ numbers → next 
         passed (can .0) (eqb-true _ _ h ∙ in-ring .own)
         (sent-gives ∙ ap (λ (test : Bool). cond test (frame .destination ∷ []) []) t
         ∙ ap (λ (d : ℕ). d ∷ []) (destination-is numbers laws-next are-stations who (can .0) (stations who) in-ring))
-        (token-views t)
+        (λ n m. refl) (token-views t)
     sent-does false t =
         nothing (sent-gives ∙ ap (λ (test : Bool). cond test (frame .destination ∷ []) []) t) (λ n m. refl) (plain-views t)
 

@@ -1,15 +1,16 @@
--- Paper 01, "The ring in demand 3": what is a pass and what is a silence, told from the octets that are written and from the watches; their
--- counts in a list of events; and what an event does to the views.
-use Rattle.laws.specs.Usual.{_≡_, Bool, true, false, cond, _||_, List, [], _∷_, ℕ, _+_, length, take, eqb}
+-- Paper 01, "The ring in demand 3": what is a pass and what is a silence, told from the octets that are written and from the watches. Their
+-- counts in a list of events, and what an event does to the views, are those of any ring that tells this much (`Counting` of settling).
+use Rattle.laws.specs.Usual.{Bool, false, cond, List, [], _∷_, ℕ, take}
 use Rattle.frame.specs.Codes.{isToken}
 use Rattle.frame_reading.specs.Reading.{readOf}
 use Rattle.frame_reading.specs.declared.Read.the-variants as read
-use Rattle.settling.specs.Ring.{_∈_, next, viewAfterPass}
+use Rattle.settling.specs.Counting as counting
+use Rattle.settling.specs.Counting.{Counting}
 use Rattle.station.specs.Rules.Asking.{askOf}
 use Rattle.frame_reading.specs.declared.Read.{Read}
 use Rattle.station.specs.declared.Asked.{Asked}
 use Rattle.station.specs.declared.Asked.the-variants as answers
-use Rattle.ring.specs.Events.{Stations, Lent, Event, asked, ticked, stray, afterEvent, endsWatch}
+use Rattle.ring.specs.Events.{Stations, Event, asked, ticked, stray, afterEvent, viewsOf, endsWatch}
 
 -- whom octets give the token to: the destination, where they read as a frame of code 65000, else nobody
 abbrev pub tokenTo : Read → List ℕ
@@ -29,50 +30,46 @@ gives stations (asked who memory turn output lent) =
 gives stations ticked = []
 gives stations (stray who call) = []
 
+-- the station that an event asks for a frame; where it asks none, any number will do
+abbrev pub asks : Event → ℕ
+asks (asked who memory turn output lent) = who
+asks ticked = 0
+asks (stray who call) = who
+
 -- whether an event ends the watch of a station of the ring
 abbrev pub ends : Stations → Event → ℕ → Bool
 ends stations (asked who memory turn output lent) number = false
 ends stations ticked number = endsWatch (stations number)
 ends stations (stray who call) number = false
 
-abbrev pub someOf : (ℕ → Bool) → List ℕ → Bool
-someOf test [] = false
-someOf test (number ∷ rest) = test number || someOf test rest
+-- the ring of full stations, of which passes and silences are counted
+abbrev pub ringCounting : Counting
+ringCounting = record {
+  State = Stations;
+  Input = Event;
+  after = afterEvent;
+  viewsOf = viewsOf;
+  asks = asks;
+  gives = gives;
+  ends = ends;
+}
 
 -- "A silence is a tick that ends the watches": of any station of the ring
 abbrev pub isSilence : List ℕ → Stations → Event → Bool
-isSilence numbers stations event = someOf (ends stations event) numbers
+isSilence = counting.isSilence ringCounting
 
 -- how many passes a list of events has
 abbrev pub passes : Stations → List Event → ℕ
-passes stations [] = 0
-passes stations (event ∷ events) = length (gives stations event) + passes (afterEvent stations event) events
+passes = counting.passes ringCounting
 
 -- how many silences
 abbrev pub silences : List ℕ → Stations → List Event → ℕ
-silences numbers stations [] = 0
-silences numbers stations (event ∷ events) =
-    cond (isSilence numbers stations event) 1 0 + silences numbers (afterEvent stations event) events
-
-abbrev pub timesIn : ℕ → List ℕ → ℕ
-timesIn x [] = 0
-timesIn x (number ∷ rest) = cond (eqb number x) 1 0 + timesIn x rest
+silences = counting.silences ringCounting
 
 -- how often x is given the token
 abbrev pub given : ℕ → Stations → List Event → ℕ
-given x stations [] = 0
-given x stations (event ∷ events) = timesIn x (gives stations event) + given x (afterEvent stations event) events
+given = counting.given ringCounting
 
 -- What an event does to the views of the ring: it is a pass, or a silence, or nothing to them.
-pub data Does (numbers : List ℕ) (stations : Stations) : Event → Type 0 where
-  -- a station of the ring that holds gives the token to the next after it, and every view moves by the rule of a token frame
-  passed : {who : ℕ} {memory turn output : List ℕ} {lent : ℕ → Lent} → who ∈ numbers → stations who .view ≡ who
-      → gives stations (asked who memory turn output lent) ≡ next numbers who ∷ []
-      → ((x : ℕ) → x ∈ numbers → afterEvent stations (asked who memory turn output lent) x .view ≡ viewAfterPass numbers who (stations x .view))
-      → Does numbers stations (asked who memory turn output lent)
-  -- the watches of all end, nobody holds, and every view becomes next after it
-  silent : ((x : ℕ) → x ∈ numbers → ends stations ticked x ≡ true) → ((x : ℕ) → x ∈ numbers → ¬ (stations x .view ≡ x))
-      → ((x : ℕ) → x ∈ numbers → afterEvent stations ticked x .view ≡ next numbers (stations x .view)) → Does numbers stations ticked
-  -- nobody is given the token, no watch ends, and no view changes
-  nothing : {event : Event} → gives stations event ≡ [] → ((x : ℕ) → x ∈ numbers → ends stations event x ≡ false)
-      → ((x : ℕ) → x ∈ numbers → afterEvent stations event x .view ≡ stations x .view) → Does numbers stations event
+abbrev pub Does : List ℕ → Stations → Event → Type 0
+Does = counting.Does ringCounting

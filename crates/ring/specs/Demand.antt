@@ -1,10 +1,10 @@
--- Demand 3: its premises, the disturbed ring as the paper takes it, and its conclusion, one sentence a field.
-use Rattle.laws.specs.Usual.{_≡_, true, List, [], _++_, ℕ, _+_, _-_, _*_, _≤_, length, take}
+-- Demand 3: its premises, the disturbed ring as the paper takes it, and its conclusion.
+use Rattle.laws.specs.Usual.{_≡_, true, List, ℕ, take}
 use Rattle.frame.specs.Codes.{isToken}
 use Rattle.members.specs.Members.{entryOf, ringOf}
 use Rattle.frame_reading.specs.Reading.{readOf}
+use Rattle.settling.specs.Counting.{CountingSettles}
 use Rattle.settling.specs.Ring.{_∈_, Stations as Ascending}
-use Rattle.settling.specs.Steps.{afterAll, EachFinds}
 use Rattle.station.specs.Rules.Asking.{askOf}
 use Rattle.station.specs.Rules.Calls.{after, hear, ask, unrefused, verdict}
 use Rattle.station.specs.Rules.Waits.{countsAs}
@@ -13,8 +13,8 @@ use Rattle.station.specs.declared.Asked.the-variants.{Octets}
 use Rattle.station.specs.Types.{Fields, Frame}
 use Rattle.station.specs.declared.Phase.the-variants.{Participating}
 use Rattle.station.specs.declared.Station.{Station}
-use Rattle.ring.specs.Counts.{passes, silences, given, Does}
-use Rattle.ring.specs.Events.{Stations, Event, afterEvent, AllName}
+use Rattle.ring.specs.Counts.{ringCounting}
+use Rattle.ring.specs.Events.{Stations, Event}
 
 -- "brought there by whatever calls since off"; "each station's last call sent or heard the same token frame unrefused"
 pub data LastCall (octets : List ℕ) : Station → Type 0 where
@@ -46,26 +46,6 @@ pub record Disturbed (numbers : List ℕ) (stations : Stations) : Type 0 where
   pub view : (number : ℕ) → number ∈ numbers → stations number .view ∈ numbers
 
 -- What is concluded of a list of events whose first part, "up to the first time that they all name one holder, or to its end if they never
--- do", is `before`, and whose rest is `later`. n is the number of stations.
-pub record RingSettles (numbers : List ℕ) (stations : Stations) (before later : List Event) : Type 0 where
-  -- "the list has at most n×n×n passes and (n-1)×(n-1) silences"
-  pub passes-loose : passes stations before ≤ length numbers * length numbers * length numbers
-  pub silences-loose : silences numbers stations before ≤ (length numbers - 1) * (length numbers - 1)
-  -- sharper: at most n(n-1)/2 passes, at most 2n-3 silences, and none for one station
-  pub passes-sharp : 2 * passes stations before ≤ length numbers * (length numbers - 1)
-  pub silences-sharp : 2 ≤ length numbers → silences numbers stations before + 3 ≤ 2 * length numbers
-  pub silences-alone : length numbers ≡ 1 → silences numbers stations before ≡ 0
-  -- Where the list goes on after `before`, they all name one holder then.
-  pub agreed : ¬ (later ≡ []) → AllName numbers (afterAll afterEvent stations before)
-  -- "from that first time on they all name one holder after every event": after every part of `later` from its start
-  pub stays : AllName numbers (afterAll afterEvent stations before) → (start rest : List Event) → later ≡ start ++ rest
-      → AllName numbers (afterAll afterEvent stations (before ++ start))
-  -- and no silence comes
-  pub no-silence : silences numbers (afterAll afterEvent stations before) later ≡ 0
-  -- "any n passes in a row give each station the token exactly once": in every stretch of `later` with n passes, whatever events that pass
-  -- nothing are between them
-  pub turns : (start window rest : List Event) → later ≡ start ++ (window ++ rest)
-      → passes (afterAll afterEvent stations (before ++ start)) window ≡ length numbers
-      → (x : ℕ) → x ∈ numbers → given x (afterAll afterEvent stations (before ++ start)) window ≡ 1
-  -- each event does to the views what it counts as: a pass, a silence, or nothing
-  pub each : EachFinds afterEvent (Does numbers) stations (before ++ later)
+-- do", is `before`, and whose rest is `later`: `CountingSettles` has it, one sentence a field.
+abbrev pub RingSettles : List ℕ → Stations → List Event → List Event → Type 0
+RingSettles = CountingSettles ringCounting

@@ -11,6 +11,5 @@ pub mod Ticks
 pub mod Strays
 pub mod Demand
 pub mod Just
-pub mod Counted
 pub mod Settles
 pub mod DemandThree

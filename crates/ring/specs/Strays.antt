@@ -8,6 +8,7 @@ use Rattle.misses.specs.CoverThird.{brought-more}
 use Rattle.misses.specs.MissHistory.{Brought}
 use Rattle.frame_reading.specs.Reading.{readOf}
 use Rattle.frame_round_trip.specs.Accepted.{reads}
+use Rattle.settling.specs.Counting.{nothing}
 use Rattle.settling.specs.Ring.{_∈_}
 use Rattle.station.specs.Rules.Calls.{Call, start, after, refusedBy, verdict}
 use Rattle.station.specs.Outcomes.HearCases as on-hearing
@@ -18,7 +19,7 @@ use Rattle.station.specs.States.ListKept.{set-either}
 use Rattle.station.specs.Rules.Waits.{countsAs}
 use Rattle.station.specs.Types.{Entry, Fields, Frame}
 use Rattle.station.specs.declared.Station.{Station}
-use Rattle.ring.specs.Counts.{Does, nothing}
+use Rattle.ring.specs.Counts.{Does}
 use Rattle.ring.specs.Events.{Stations, stray, afterEvent, Stray, refused, starts, harmless, CanCome}
 use Rattle.ring.specs.Lists.{ring-kept}
 use Rattle.ring.specs.Member.{InRing, listed}

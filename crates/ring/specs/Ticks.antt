@@ -6,13 +6,14 @@ use Rattle.panel.specs.Panel.{ticked as panelTicked}
 use Rattle.laws.specs.Tests.{first, second}
 use Rattle.misses.specs.CoverThird.{brought-more, strikesInView, cover-third}
 use Rattle.misses.specs.MissHistory.{Brought}
+use Rattle.settling.specs.Counting.{silent, nothing}
 use Rattle.settling.specs.Ring.{_∈_, next}
 use Rattle.station.specs.Rules.Calls.{tick}
 use Rattle.station.specs.Rules.State.{isParticipating, counted}
 use Rattle.station.specs.Rules.Ticking.{watchTime, watchEnds, watchEnded, later}
 use Rattle.station.specs.Rules.Waits.{longestWatch}
 use Rattle.station.specs.declared.Station.{Station}
-use Rattle.ring.specs.Counts.{Does, silent, nothing}
+use Rattle.ring.specs.Counts.{Does}
 use Rattle.ring.specs.Events.{Stations, ticked, afterEvent, endsWatch, CanCome}
 use Rattle.ring.specs.Member.{InRing, next-same, restarted-in, one-time, missed-kept, missed-times}
 use Rattle.ring.specs.Steps.{Ok}
@@ -95,7 +96,7 @@ module _ (numbers : List ℕ) (laws-next : (x : ℕ) → x ∈ numbers → next 
 
     ended-does : Does numbers stations ticked
     ended-does =
-        silent (λ x m. ends-is x m ∙ e)
+        silent refl (λ x m. ends-is x m ∙ e)
         (λ x m d. eqb-false (stations x .view) (stations x .own .number) (can .0 x m (ends-is x m ∙ e)) (d ∙ sym (ok .each x m .own)))
         (λ x m. ap (λ (s : Station). s .view) (ended x m) ∙ ended-view x m)
 

@@ -1,8 +1,11 @@
 -- The paper's worked cases, run through the definitions; and that the theorems' premises can be met.
-use Rattle.laws.specs.Usual.{_≡_, refl, sym, subst, _∙_, cond, List, [], _∷_, ℕ, arith, eqb}
+use Rattle.laws.specs.Usual.{_≡_, refl, sym, subst, _∙_, Bool, true, false, cond, List, [], _∷_, ℕ, arith, eqb}
 use mathlib.Core.Logic.{inl}
 use mathlib.Core.List.{List·Memᴰ·head, List·Memᴰ·tail}
 use Rattle.settling.specs.Ring.{_∈_, Stations, next, Views, Within, Agreed, pass, silence, viewAfterPass, move, Legal, Run, viewsAfter, Event}
+use Rattle.settling.specs.Counted.{counting-settles}
+use Rattle.settling.specs.Counting as counting
+use Rattle.settling.specs.Counting.{Counting, Does, Orderly, CountingSettles}
 use Rattle.settling.specs.First.{FirstAgreement}
 use Rattle.settling.specs.Next.{laws-of, ascending-cons}
 use Rattle.settling.specs.Moves.{within-stays}
@@ -93,3 +96,56 @@ views-simulate ns s = record { within = λ views w. w; keeps = keeps; moved = mo
     moved : (views : Views) (input : Effect) → Within ns views → CanCome ns views input → Moved ns views input (viewsThen ns views input)
     moved views (makes event) w l = (l, λ x m. refl)
     moved views nothing w l = λ x m. refl
+
+-- The same ring of views as one in which passes and silences are counted.
+abbrev asksOf : Effect → ℕ
+asksOf (makes (pass x)) = x
+asksOf (makes silence) = 0
+asksOf nothing = 0
+
+abbrev givesTo : List ℕ → Effect → List ℕ
+givesTo ns (makes (pass x)) = next ns x ∷ []
+givesTo ns (makes silence) = []
+givesTo ns nothing = []
+
+abbrev endsAll : Effect → Bool
+endsAll (makes (pass x)) = false
+endsAll (makes silence) = true
+endsAll nothing = false
+
+abbrev viewsCounting : List ℕ → Counting
+viewsCounting ns = record {
+  State = Views;
+  Input = Effect;
+  after = viewsThen ns;
+  viewsOf = λ views. views;
+  asks = asksOf;
+  gives = λ views input. givesTo ns input;
+  ends = λ views input x. endsAll input;
+}
+
+-- the run above, with an input that does nothing: one silence, and one pass, which gives the token to 2
+abbrev inputs : List Effect
+inputs = makes silence ∷ nothing ∷ makes (pass 1) ∷ []
+
+counted : (counting.passes (viewsCounting three) shown inputs ≡ 1) × (counting.silences (viewsCounting three) three shown inputs ≡ 1)
+    × (counting.given (viewsCounting three) 2 shown inputs ≡ 1) × (counting.given (viewsCounting three) 1 shown inputs ≡ 0)
+counted = (refl, refl, refl, refl)
+
+-- it meets the premises of `counting-settles`
+views-orderly : (ns : List ℕ) → Stations ns → Orderly (viewsCounting ns) ns (Within ns) (CanCome ns)
+views-orderly ns s = record { within = λ views w. w; keeps = views-simulate ns s .keeps; does = does }
+  where
+    does : (views : Views) (input : Effect) → Within ns views → CanCome ns views input → Does (viewsCounting ns) ns views input
+    does views (makes (pass x)) w l = counting.passed (l .0) (l .1) refl (λ y m. refl) (λ y m. refl)
+    does views (makes silence) w l = counting.silent refl (λ y m. refl) l (λ y m. refl)
+    does views nothing w l = counting.nothing refl (λ y m. refl) (λ y m. refl)
+
+counted-settles : CountingSettles (viewsCounting three) three shown inputs []
+counted-settles =
+    counting-settles (views-orderly three three-stations) three-stations settle-within (settle-run .0, (tt, settle-run .1))
+    (record {
+      split = refl;
+      differing = (settle-first .differing .0, (settle-first .differing .1 .0, settle-first .differing .1));
+      reached = inl refl;
+    })

@@ -3,6 +3,7 @@
 pub mod Steps
 pub mod Ring
 pub mod First
+pub mod Counting
 -- The proofs, in the order in which they build on each other.
 pub mod Append
 pub mod Next
@@ -17,4 +18,5 @@ pub mod Passes
 pub mod Settling
 pub mod Same
 pub mod Simulation
+pub mod Counted
 pub mod Examples
