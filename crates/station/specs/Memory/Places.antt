@@ -1,8 +1,8 @@
 -- The common memory octet by octet, where a turn is written; and our own areas, which no frame writes. Assumes nothing.
-use Rattle.laws.specs.Usual.{_≡_, refl, sym, ap, _∙_, Bool, true, false, List, _++_, ℕ, _+_, _-_, _*_, _<_, _≤_, min, arith, length, getD, take, drop, leb}
-use lib.ListN.{length-take, length-drop, List·getD-append}
-use lib.Seq.{getD-append-add, getD-take, getD-drop}
-use borrow.Author.Tests.{leb-true, leb-false}
+use Rattle.laws.specs.Usual.{_≡_, _∙_, true, List, ℕ, _+_, _*_, _<_, _≤_, min, arith, length, getD, take, drop}
+use lib.ListN.{length-take, length-drop}
+use lib.Seq.{getD-take, getD-drop}
+use borrow.Author.Tests.{leb-true}
 use Rattle.laws.specs.Tests.{first, second}
 use Rattle.area.specs.Areas.{inArea, inRange, spanOf, memoryOctets}
 use Rattle.area.specs.declared.Areas.{Areas}
@@ -10,43 +10,13 @@ use Rattle.area.specs.declared.Area.the-variants.{One, Two}
 use Rattle.area.specs.declared.Span.{Span}
 use Rattle.copying.specs.Laws.{length-pasted}
 use Rattle.copying.specs.Pasted.{pasted}
+use Rattle.copying.specs.Places.{paste-before, paste-in, paste-outside}
 use Rattle.station.specs.Rules.Data.{turnWritten}
 
 -- the place is in the span
 pub record In (span : Span) (at : ℕ) : Type 0 where
   pub from : span .start ≤ at
   pub before : at < span .start + span .length
-
--- the octets before what was put in, behind it, and in it
-module _ (d s : List ℕ) (at : ℕ) (fits : at + length s ≤ length d) where
-  paste-before : (i : ℕ) → i < at → getD (pasted d at s) i 0 ≡ getD d i 0
-  paste-before i h =
-      List·getD-append (take at d) (s ++ drop (at + length s) d) 0 i (rw (length-take at d) (omega arith)) ∙ getD-take at d i 0 h
-
-  paste-in : (i : ℕ) → i < length s → getD (pasted d at s) (at + i) 0 ≡ getD s i 0
-  paste-in i h =
-      let front : length (take at d) ≡ at = length-take at d ∙ omega arith in
-      ap (λ (k : ℕ). getD (pasted d at s) (k + i) 0) (sym front)
-      ∙ getD-append-add (take at d) (s ++ drop (at + length s) d) i 0
-      ∙ List·getD-append s (drop (at + length s) d) 0 i h
-
-  paste-behind : (i : ℕ) → at + length s ≤ i → getD (pasted d at s) i 0 ≡ getD d i 0
-  paste-behind i h =
-      let front : length (take at d) ≡ at = length-take at d ∙ omega arith in
-      let place : i ≡ length (take at d) + (length s + (i - (at + length s))) = rw front (omega arith) in
-      ap (λ (k : ℕ). getD (pasted d at s) k 0) place
-      ∙ getD-append-add (take at d) (s ++ drop (at + length s) d) (length s + (i - (at + length s))) 0
-      ∙ getD-append-add s (drop (at + length s) d) (i - (at + length s)) 0
-      ∙ getD-drop (at + length s) d (i - (at + length s)) 0
-      ∙ ap (λ (k : ℕ). getD d k 0) (omega arith)
-
-  paste-outside : (i : ℕ) → (at ≤ i → i < at + length s → ⊥) → getD (pasted d at s) i 0 ≡ getD d i 0
-  paste-outside i out = by (leb at i) (leb (at + length s) i) refl refl
-    where
-      by : (a b : Bool) → leb at i ≡ a → leb (at + length s) i ≡ b → getD (pasted d at s) i 0 ≡ getD d i 0
-      by true true e f = paste-behind i (leb-true (at + length s) i f)
-      by true false e f = absurd (out (leb-true at i e) (leb-false (at + length s) i f))
-      by false b e f = paste-before i (leb-false at i e)
 
 -- a turn written to areas in range
 module _ (areas : Areas) (turn memory : List ℕ) (ranged : inRange areas ≡ true) (long : length memory ≡ memoryOctets) where
