@@ -29,12 +29,13 @@ module _ {numbers : List ℕ} (ascending : Ascending numbers) (are-stations : (n
   starts : firstOf numbers ∈ numbers
   starts = first-in numbers (ascending .some)
 
-  kept : (now : Stations) (event : Event) → Ok numbers now → CanCome numbers now event → Ok numbers (afterEvent now event)
+  -- every event that can come keeps what is kept of the ring, and does one of the three to the views
+  pub kept : (now : Stations) (event : Event) → Ok numbers now → CanCome numbers now event → Ok numbers (afterEvent now event)
   kept now (asked who memory turn output lent) ok can = asked-ok numbers next-in are-stations now ok who memory turn output lent can
   kept now ticked ok can = ticked-ok numbers next-in starts now ok can
   kept now (stray who call) ok can = stray-ok numbers now ok who call can
 
-  does : (now : Stations) (event : Event) → Ok numbers now → CanCome numbers now event → Does numbers now event
+  pub does : (now : Stations) (event : Event) → Ok numbers now → CanCome numbers now event → Does numbers now event
   does now (asked who memory turn output lent) ok can = asked-does numbers next-in are-stations now ok who memory turn output lent can
   does now ticked ok can = ticked-does numbers next-in starts now ok can
   does now (stray who call) ok can = stray-does numbers now ok who call can
