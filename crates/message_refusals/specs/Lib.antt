@@ -1,0 +1,2 @@
+-- The refusals of a station with messages.
+pub mod Left
