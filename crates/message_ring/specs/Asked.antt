@@ -47,10 +47,10 @@ module _ (sender : Both) (memory turn output mail : List ℕ) (right : asking.le
   enough : letter .octets ≤ length mail
   enough = let long = eqb-true (length mail) 1024 lends in let small = few in omega arith
 
-  asks-letter : askOf sender memory turn output mail ≡ letterAsked sender turn output mail
+  pub asks-letter : askOf sender memory turn output mail ≡ letterAsked sender turn output mail
   asks-letter = rw (lends, right, now)
 
-  octets-are : take (wholeLength letter) (outputOf letter mail output) ≡ frameOf letter mail
+  pub octets-are : take (wholeLength letter) (outputOf letter mail output) ≡ frameOf letter mail
   octets-are = frame-written letter mail enough output
 
   -- whoever hears it takes it for a message
@@ -63,7 +63,7 @@ module _ (sender : Both) (memory turn output mail : List ℕ) (right : asking.le
       (ap isMessage (code-read letter mail enough) ∙ second (leb (letter .octets) 1024) _ writable))))
 
   -- a participant's ring part stays
-  letter-handed : (listener : Both) (lent : Lent) → hearing.lentRight (lent .memory) (lent .assembly) ≡ true → isParticipating (listener .ring .phase) ≡ true
+  pub letter-handed : (listener : Both) (lent : Lent) → hearing.lentRight (lent .memory) (lent .assembly) ≡ true → isParticipating (listener .ring .phase) ≡ true
       → handed listener lent (answers.Octets (wholeLength letter)) (outputOf letter mail output) .ring ≡ listener .ring
   letter-handed listener lent lends-right inside =
       ap (λ (o : List ℕ). hearOf listener o (lent .memory) (lent .assembly) .both .ring) octets-are

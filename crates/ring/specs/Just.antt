@@ -22,7 +22,7 @@ two-phases : {a b : Phase} → a ≡ b → isParticipating a ≡ true → isPart
 two-phases e p q = false≢true (sym q ∙ sym (ap isParticipating e) ∙ p)
 
 -- a station that participates after it was asked has restarted its watch
-asked-zero : {station : Station} {memory turn output : List ℕ} {result : Asking} {count : ℕ} → on-asking.AskCases station memory turn output result →
+pub asked-zero : {station : Station} {memory turn output : List ℕ} {result : Asking} {count : ℕ} → on-asking.AskCases station memory turn output result →
     result .answer ≡ Octets count → result .station .phase ≡ Participating → result .station .elapsed .0 ≡ 0
 asked-zero (on-asking.refuses refusal) a p = let z : _≡_ {A = ℕ} 0 1 = cc in absurd (omega arith)
 asked-zero (on-asking.sends lent is (on-asking.triggers e due)) a p = absurd (two-phases (sym p) refl refl)
@@ -47,7 +47,7 @@ module _ {station : Station} {octets memory assembly : List ℕ} (frame : Fields
       let same : frame ≡ other = cc in
       ap (λ (f : Fields). isCyclic (f .code)) (sym same) ∙ token-cyclic (frame .code) token
 
-  heard-zero : {result : Hearing} → on-hearing.HearCases station octets memory assembly result → heardVerdict (result .answer) ≡ unrefused →
+  pub heard-zero : {result : Hearing} → on-hearing.HearCases station octets memory assembly result → heardVerdict (result .answer) ≡ unrefused →
       result .station .phase ≡ Participating → result .station .elapsed .0 ≡ 0
   heard-zero (on-hearing.refuses refusal) v p = absurd (refused-not v)
   heard-zero (on-hearing.turnsOff out) v p = absurd (refused-not v)
