@@ -170,7 +170,7 @@ module _ (both : Both) (memory turn output : List ℕ) where
   ask-left : {mail : List ℕ} {result : Asking} (refusal : Refusal) → outcomes.AskCases both memory turn output mail result
       → base.askedVerdict (result .answer) ≡ base.refusedBy refusal
       → (result .both ≡ both) × (result .turn ≡ turn) × (result .output ≡ output)
-  ask-left refusal outcomes.refuses e = (refl, refl, refl)
+  ask-left refusal (outcomes.refuses wrong) e = (refl, refl, refl)
   ask-left refusal (outcomes.sends right lent-right now) e = absurd (one-verdict e)
   ask-left refusal (outcomes.blocks right other) e = block-left refusal (on-asking.ask-cases (both .ring) memory turn output) e
 

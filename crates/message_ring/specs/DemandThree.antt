@@ -59,7 +59,7 @@ module _ (octets : List ℕ) (token : Fields) (read : readOf octets ≡ Frame to
   sent-restarts : {before : Both} {memory turn output mail : List ℕ} {count : ℕ} {result : Asking} → outcomes.AskCases before memory turn output mail result
       → result .answer ≡ answers.Octets count → take count (result .output) ≡ octets → result .both .ring .phase ≡ Participating
       → result .both .ring .elapsed .0 ≡ 0
-  sent-restarts outcomes.refuses a w p = let z : _≡_ {A = ℕ} 0 1 = cc in absurd (omega arith)
+  sent-restarts (outcomes.refuses wrong) a w p = let z : _≡_ {A = ℕ} 0 1 = cc in absurd (omega arith)
   sent-restarts {before} {memory} {turn} {output} {mail} {count} (outcomes.sends right lent now) a w p =
       let letter = letterGoing (before .ring .own .number) (before .messages) in
       let same-count : wholeLength letter ≡ count = cc in

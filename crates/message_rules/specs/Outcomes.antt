@@ -95,6 +95,15 @@ module _ (station : Station) (messages : Messages) (given : ℕ) (letter : Lette
       by true a false s inside i true m false n false o false u ninth h =
           passes (record { address = a; untaken = s; size = m; known = n; on = o }) u
 
+  -- one that is taken
+  pub letter-taken : Accepts station given letter → isForUs station letter ≡ true → isHeld messages letter ≡ false
+      → letters.letterHeard station messages given letter ≡ record {
+        station = station;
+        messages = judged messages (judgementOf messages letter) letter;
+        answer = answerTo (judgementOf messages letter) letter;
+      }
+  letter-taken accepts ours room = rw (accepts .address, accepts .untaken, accepts .size, accepts .known, accepts .on, ours, room)
+
 -- what hearing leaves: of a message, or of a frame of the base
 pub data HearCases (both : Both) (octets memory assembly : List ℕ) : calls.Hearing → Type 0 where
   letter : isLetter octets memory assembly ≡ true
@@ -148,7 +157,7 @@ module _ (station : Station) (messages : Messages) (message : Message) (octets m
 
 -- what asking leaves: 11, a message that goes, or what the base writes or refuses
 pub data AskCases (both : Both) (memory turn output mail : List ℕ) : Asking → Type 0 where
-  refuses : AskCases both memory turn output mail
+  refuses : mailRight mail ≡ false → AskCases both memory turn output mail
       (record { both = both; answer = asked.Refused refusals.Buffer; turn = turn; output = output })
   sends : mailRight mail ≡ true → asking.lentRight memory turn output ≡ true → goes (both .ring) (both .messages) ≡ true
       → AskCases both memory turn output mail (letterAsked both turn output mail)
@@ -164,6 +173,6 @@ module _ (both : Both) (memory turn output mail : List ℕ) where
           (cond right
           (cond now (letterAsked both turn output mail) (blockAsked both memory turn output))
           (record { both = both; answer = asked.Refused refusals.Buffer; turn = turn; output = output }))
-      by false r now g = refuses
+      by false r now g = refuses r
       by true r true g = sends r (first (asking.lentRight memory turn output) _ g) (second (asking.lentRight memory turn output) _ g)
       by true r false g = blocks r g

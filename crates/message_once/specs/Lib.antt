@@ -1,0 +1,3 @@
+-- That a message is handed over once, and confirmed.
+pub mod Sources
+pub mod Once
