@@ -8,14 +8,14 @@ fn join(high: u8, low: u8) -> u16
     high as u16 * 256 + low as u16
 }
 
-pub(crate) fn word_at(s: &[u8], at: usize) -> u16
+pub fn word_at(s: &[u8], at: usize) -> u16
     requires { ⌜ at + 1 < length (now s) ⌝ }
     ensures { λ r. ⌜ r ≡ wordAt (now (s .entry)) at ⌝ }
 {
     join(s[at], s[at + 1])
 }
 
-pub(crate) fn long_at(s: &[u8], at: usize) -> u32
+pub fn long_at(s: &[u8], at: usize) -> u32
     requires { ⌜ at + 3 < length (now s) ⌝ }
     ensures { λ r. ⌜ r ≡ longAt (now (s .entry)) at ⌝ }
 {

@@ -73,6 +73,22 @@ pub enum Mail {
     Failed,
 }
 
+// The message that waits to go or to be confirmed, or what became of the last one.
+pub struct Slot {
+    pub mail: Mail,
+    pub message: Message,
+    // The octets of its data, which stand in front in the mail buffer.
+    pub octets: u16,
+    // Its sequence number, 0 until it first goes.
+    pub number: u32,
+    // Since it last went: ticks and takings, up to what a resend waits for, and whether a status came that asks for one.
+    pub ticks: u16,
+    pub takings: u8,
+    pub asked: bool,
+    // How often it was sent again.
+    pub resends: u8,
+}
+
 // A message for us, by its version and its number.
 pub enum Judged {
     Abnormal,

@@ -6,17 +6,16 @@ use borrow.Author.Tests.{not-true}
 use Rattle.frame.specs.declared.Refusal.{Refusal}
 use Rattle.frame.specs.declared.Refusal.the-variants as refusals
 use Rattle.laws.specs.Tests.{first}
-use Rattle.message.specs.declared.Judged.{Judged}
-use Rattle.message.specs.declared.Judged.the-variants.{Abnormal, OtherVersion, Repeat, New}
 use Rattle.message.specs.declared.Letter.{Letter}
+use Rattle.message_rules.specs.Letters.LetterAccepted.{judged-unrefused}
 use Rattle.message_frames.specs.Frames.{letterIn}
-use Rattle.message_rules.specs.Again.{turned}
-use Rattle.message_rules.specs.Calls.{Both, Call, start, stop, tick, post, hear, ask, lent, lentAfter, after, verdict, postedVerdict, receivedVerdict, isDone, takes, turnsOff, Hearing, Asking, frameHeard, carriedBy, frameAsked}
-use Rattle.message_rules.specs.Confirming.{isCyclicAnswer, afterFrame}
-use Rattle.message_rules.specs.Hearing as letters
+use Rattle.message_rules.specs.Rules.Again.{turned}
+use Rattle.message_rules.specs.Rules.Calls.{Both, Call, start, stop, tick, post, hear, ask, lent, lentAfter, after, verdict, postedVerdict, receivedVerdict, isDone, takes, turnsOff, Hearing, Asking, frameHeard, carriedBy, frameAsked}
+use Rattle.message_rules.specs.Rules.Confirming.{isCyclicAnswer, afterFrame}
+use Rattle.message_rules.specs.Rules.Hearing as letters
 use Rattle.message_rules.specs.Outcomes as outcomes
-use Rattle.message_rules.specs.Posting.{Posting}
-use Rattle.message_rules.specs.State.{Messages, noMessages}
+use Rattle.message_rules.specs.Rules.Posting.{Posting}
+use Rattle.message_rules.specs.Rules.State.{Messages, noMessages}
 use Rattle.refusals.specs.Applies.{applies}
 use Rattle.refusals.specs.FirstFound.{refused-first}
 use Rattle.station.specs.Outcomes.AskCases as on-asking
@@ -77,12 +76,6 @@ post-left refusal (outcomes.off out) e = absurd (one-verdict e)
 post-left refusal (outcomes.waits right sendable free on) e = absurd (one-verdict e)
 
 -- hearing a message
-judged-unrefused : (judged : Judged) (letter : Letter) → receivedVerdict (letters.answerTo judged letter) ≡ base.unrefused
-judged-unrefused Abnormal letter = refl
-judged-unrefused OtherVersion letter = refl
-judged-unrefused Repeat letter = refl
-judged-unrefused New letter = refl
-
 letter-left : (both : Both) {given : ℕ} {letter : Letter} {result : letters.Hearing} (refusal : Refusal)
     → outcomes.LetterCases (both .ring) (both .messages) given letter result → receivedVerdict (result .answer) ≡ base.refusedBy refusal
     → SparedBoth both (record { ring = result .station; messages = result .messages }) refusal

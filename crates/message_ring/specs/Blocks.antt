@@ -3,19 +3,16 @@ use Rattle.laws.specs.Usual.{_≡_, refl, sym, ap, ap₂, _∙_, Bool, true, fa
 use native.Mathlib.Decide.{ℕ-discrete}
 use borrow.Author.Tests.{eq-eqb, ne-eqb, eqb-true}
 use Rattle.frame.specs.Codes.{isToken, isCyclic}
-use Rattle.frame.specs.Octets.{longAt}
-use Rattle.frame.specs.Positions.{TFL}
 use Rattle.frame.specs.declared.Fields.{Fields}
 use Rattle.frame.specs.declared.Refusal.the-variants as refusals
-use Rattle.frame_reading.specs.Reading.{isStation, fieldsOf, readOf, dataSize}
+use Rattle.frame_reading.specs.Reading.{isStation, readOf, dataSize}
 use Rattle.frame_reading.specs.declared.Read.{Read}
 use Rattle.frame_reading.specs.declared.Read.the-variants.{Frame}
-use Rattle.frame_round_trip.specs.Accepted.{Accepted, accepted}
 use Rattle.frame_writing.specs.Writing.{wholeLength}
-use Rattle.message_base.specs.CarriedRead.{Plain, relength}
-use Rattle.message_base.specs.Wrote.{Wrote, asked-wrote, wrote-read, wrote-ring}
+use Rattle.message_rules.specs.Carried.CarriedRead.{Plain, plain-of}
+use Rattle.message_rules.specs.Carried.Wrote.{Wrote, asked-wrote, wrote-read, wrote-ring}
 use Rattle.message_ring.specs.Events.{Boths, ringsOf, handed}
-use Rattle.message_rules.specs.Calls.{Both, blockAsked, carriedBy, answerBy}
+use Rattle.message_rules.specs.Rules.Calls.{Both, blockAsked, carriedBy, answerBy}
 use Rattle.ring.specs.Counts.{givenBy, tokenTo}
 use Rattle.ring.specs.Events as base
 use Rattle.ring.specs.Events.{Lent}
@@ -55,28 +52,14 @@ module _ (numbers : List ℕ) (next-in : (x : ℕ) → x ∈ numbers → next nu
     answer-is : wrote-base .answer ≡ answers.Octets (wholeLength frame)
     answer-is = asked-answer numbers next-in are-stations who member (sender .ring) in-ring memory turn output right held
 
-    passes-tests : Accepted octets frame
-    passes-tests = accepted octets frame read
-
-    length-is : 64 + frame .size ≡ length octets
-    unfolding fieldsOf
-    length-is =
-        sym long-is
-        ∙ sym (ap (λ (f : Fields). f .length) (passes-tests .holds))
-        ∙ eqb-true (longAt octets TFL) (length octets) (passes-tests .is-long)
-
     plain : Plain octets frame
-    plain = record {
-      accepted = passes-tests;
-      cyclic = cyclic-is numbers next-in are-stations who member (sender .ring) in-ring;
-      header = length-is;
-    }
+    plain = plain-of octets frame read (cyclic-is numbers next-in are-stations who member (sender .ring) in-ring) long-is
 
     wrote : Wrote octets
         (take (carriedBy sender (answers.Octets (wholeLength frame)) (wrote-base .output) .count)
         (carriedBy sender (answers.Octets (wholeLength frame)) (wrote-base .output) .output))
     wrote =
-        let whole : wholeLength frame ≡ length octets = ap (λ (n : ℕ). 64 + n) size-is ∙ length-is in
+        let whole : wholeLength frame ≡ length octets = ap (λ (n : ℕ). 64 + n) size-is ∙ plain .header in
         let least : 64 ≤ wholeLength frame = omega arith in
         asked-wrote (wholeLength frame) (wrote-base .output) (sym whole) least sender
 

@@ -4,9 +4,9 @@ use Rattle.laws.specs.Usual.{_≡_, true, List, ℕ, take}
 use Rattle.frame.specs.Codes.{isToken}
 use Rattle.frame_reading.specs.Reading.{readOf}
 use Rattle.members.specs.Members.{entryOf, ringOf}
-use Rattle.message_base.specs.Reached.{Reachable, Typed}
+use Rattle.message_rules.specs.Ring.Reached.{Reachable, Typed}
 use Rattle.message_ring.specs.Events.{Boths, Event, bothCounting}
-use Rattle.message_rules.specs.Calls.{Both, after, hear, ask, askOf, verdict}
+use Rattle.message_rules.specs.Rules.Calls.{Both, after, hear, ask, askOf, verdict}
 use Rattle.settling.specs.Counting.{CountingSettles}
 use Rattle.settling.specs.Ring.{_∈_, Stations as Ascending}
 use Rattle.station.specs.Rules.Calls.{unrefused}

@@ -8,15 +8,15 @@ use Rattle.frame_reading.specs.Reading.{readOf}
 use Rattle.frame_reading.specs.declared.Read.{Read}
 use Rattle.frame_reading.specs.declared.Read.the-variants.{Frame, Refused}
 use Rattle.laws.specs.Tests.{first}
-use Rattle.message_base.specs.Buffers.{letter-unread}
-use Rattle.message_base.specs.Reached.{Reachable, called, ring-reached}
+use Rattle.message_rules.specs.Ring.Buffers.{letter-unread}
+use Rattle.message_rules.specs.Ring.Reached.{Reachable, called, ring-reached}
 use Rattle.message_frames.specs.Frames.{wholeLength, frameOf, outputOf}
-use Rattle.message_ring.specs.Asked.{is-letter, octets-are}
+use Rattle.message_rules.specs.Letters.LetterSent.{is-letter, octets-are}
 use Rattle.message_ring.specs.Demand.{LastCall, sent, heard, Disturbed, BothSettles}
 use Rattle.message_ring.specs.Events.{Boths, ringsOf, viewsOf, Event, afterEvent, bothCounting, CanCome}
 use Rattle.message_ring.specs.Settles.{settles-from-both}
-use Rattle.message_rules.specs.Again.{letterGoing}
-use Rattle.message_rules.specs.Calls.{Both, after, ask, hear, hearOf, Hearing, Asking, receivedVerdict, carriedBy, answerBy}
+use Rattle.message_rules.specs.Rules.Again.{letterGoing}
+use Rattle.message_rules.specs.Rules.Calls.{Both, after, ask, hear, hearOf, Hearing, Asking, receivedVerdict, carriedBy, answerBy}
 use Rattle.message_rules.specs.Outcomes as outcomes
 use Rattle.ring.specs.DemandThree.{Fresh, begins, are-stations}
 use Rattle.ring.specs.Just.{asked-zero, heard-zero}

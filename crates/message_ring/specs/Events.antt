@@ -6,9 +6,9 @@ use Rattle.frame.specs.declared.Code.the-variants.{Request}
 use Rattle.frame_reading.specs.Reading.{readOf}
 use Rattle.message.specs.declared.Allowance.{Allowance}
 use Rattle.message.specs.declared.Message.{Message}
-use Rattle.message_rules.specs.Calls.{Both, Call, start, post, hear, after, hearOf, askOf, tickOf, verdict}
-use Rattle.message_rules.specs.Hearing.{isLetter}
-use Rattle.message_rules.specs.Posting.{mailRight}
+use Rattle.message_rules.specs.Rules.Calls.{Both, Call, start, post, hear, after, hearOf, askOf, tickOf, verdict}
+use Rattle.message_rules.specs.Rules.Hearing.{isLetter}
+use Rattle.message_rules.specs.Rules.Posting.{mailRight}
 use Rattle.misses.specs.MissHistory.{ThirdRunning}
 use Rattle.ring.specs.Counts.{givenBy}
 use Rattle.ring.specs.Events.{Stations, Lent, endsWatch}

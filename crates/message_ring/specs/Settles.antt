@@ -7,15 +7,16 @@ use Rattle.frame.specs.declared.Fields.{Fields}
 use Rattle.frame.specs.declared.Refusal.{Refusal}
 use Rattle.frame_reading.specs.Reading.{isStation, readOf}
 use Rattle.frame_reading.specs.declared.Read.the-variants.{Frame}
-use Rattle.message_base.specs.Buffers.{read-frame}
-use Rattle.message_base.specs.RingPart.{letter-ring}
+use Rattle.message_rules.specs.Ring.Buffers.{read-frame}
+use Rattle.message_rules.specs.Ring.RingPart.{letter-ring}
 use Rattle.message_refusals.specs.Left.{SparedBoth, same, turnedOff, refused-left-both}
-use Rattle.message_ring.specs.Asked.{asks-letter, letter-handed, letter-gives}
+use Rattle.message_rules.specs.Letters.LetterSent.{asks-letter}
+use Rattle.message_ring.specs.Asked.{letter-handed, letter-gives}
 use Rattle.message_ring.specs.Blocks.{block-gives, block-handed}
 use Rattle.message_ring.specs.Events.{Boths, ringsOf, viewsOf, Event, asked, ticked, stray, handed, afterEvent, gives, asks, ends, bothCounting, Stray, refused, starts, posts, letters, harmless, CanCome}
-use Rattle.message_rules.specs.Calls.{Both, Call, hear, after, verdict, askOf, Asking, letterAsked, blockAsked}
-use Rattle.message_rules.specs.Cycle.{goes}
-use Rattle.message_rules.specs.Posting.{mailRight}
+use Rattle.message_rules.specs.Rules.Calls.{Both, Call, hear, after, verdict, askOf, Asking, letterAsked, blockAsked}
+use Rattle.message_rules.specs.Rules.Cycle.{goes}
+use Rattle.message_rules.specs.Rules.Posting.{mailRight}
 use Rattle.misses.specs.MissHistory.{Brought}
 use Rattle.ring.specs.Counts as base-counts
 use Rattle.ring.specs.Events as base

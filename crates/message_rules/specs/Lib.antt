@@ -1,9 +1,8 @@
--- The rules of messages, in the paper's order.
-pub mod State
-pub mod Posting
-pub mod Cycle
-pub mod Again
-pub mod Confirming
-pub mod Hearing
-pub mod Calls
+-- The rules of messages, and what is proved of them.
+pub mod Rules
 pub mod Outcomes
+pub mod Ring
+pub mod Carried
+pub mod Letters
+pub mod Sending
+pub mod Receiving

@@ -19,15 +19,15 @@ use Rattle.station.specs.Rules.State.{isOff, isParticipating, stopped}
 use Rattle.station.specs.declared.Asked.the-variants as asked
 use Rattle.station.specs.declared.Heard.the-variants as heard
 use Rattle.station.specs.declared.Station.{Station}
-use Rattle.message_rules.specs.Again.{isOpen}
-use Rattle.message_rules.specs.Calls as calls
-use Rattle.message_rules.specs.Calls.{Both, letterHeard, frameHeard, Asking, letterAsked, blockAsked, askOf}
-use Rattle.message_rules.specs.Cycle.{goes}
-use Rattle.message_rules.specs.Hearing as letters
-use Rattle.message_rules.specs.Hearing.{Hearing, isLetter, isHeld, isForUs, isTaken, isStranger, need, unchanged, refused, messagesTaken, taken, delivered, judged, judgementOf, answerTo, messageHeard}
-use Rattle.message_rules.specs.Posting.{Posting, mailRight, isSendable, waiting, handedIn, postOf}
-use Rattle.message_rules.specs.Posting as posting
-use Rattle.message_rules.specs.State.{Messages, noMessages, withSlot}
+use Rattle.message_rules.specs.Rules.Again.{isOpen}
+use Rattle.message_rules.specs.Rules.Calls as calls
+use Rattle.message_rules.specs.Rules.Calls.{Both, letterHeard, frameHeard, Asking, letterAsked, blockAsked, askOf}
+use Rattle.message_rules.specs.Rules.Cycle.{goes}
+use Rattle.message_rules.specs.Rules.Hearing as letters
+use Rattle.message_rules.specs.Rules.Hearing.{Hearing, isLetter, isHeld, isForUs, isTaken, isStranger, need, unchanged, refused, messagesTaken, taken, delivered, judged, judgementOf, answerTo, messageHeard}
+use Rattle.message_rules.specs.Rules.Posting.{Posting, mailRight, isSendable, waiting, handedIn, postOf}
+use Rattle.message_rules.specs.Rules.Posting as posting
+use Rattle.message_rules.specs.Rules.State.{Messages, noMessages, withSlot}
 
 -- a message that no refusal met, of another station, at one that is not off
 pub record Accepts (station : Station) (given : ℕ) (letter : Letter) : Type 0 where

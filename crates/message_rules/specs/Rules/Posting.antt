@@ -12,8 +12,9 @@ use Rattle.message.specs.declared.Posted.the-variants as answers
 use Rattle.message_frames.specs.Frames.{dataMost}
 use Rattle.station.specs.Rules.State.{isOff}
 use Rattle.station.specs.declared.Station.{Station}
-use Rattle.message_rules.specs.Again.{isOpen}
-use Rattle.message_rules.specs.State.{Slot, Messages, withSlot}
+use Rattle.message_rules.specs.Rules.Again.{isOpen}
+use Rattle.message.specs.declared.Slot.{Slot}
+use Rattle.message_rules.specs.Rules.State.{Messages, withSlot}
 
 -- the call: the message part after it, the answer, and the mail buffer after it; the data are only read, and the ring part stays
 pub record Posting : Type 0 where

@@ -6,22 +6,9 @@ use Rattle.message.specs.declared.Confirmation.{Confirmation}
 use Rattle.message.specs.declared.Mail.{Mail}
 use Rattle.message.specs.declared.Mail.the-variants.{Nothing, Waiting, Unconfirmed, Confirmed, Sent, Failed}
 use Rattle.message.specs.declared.Message.{Message}
+use Rattle.message.specs.declared.Slot.{Slot}
 
--- The message that waits to go or to be confirmed, or what became of the last one. (E9 of paper 02 has eight of them.)
-pub record Slot : Type 0 where
-  pub mail : Mail
-  pub message : Message
-  -- the octets of its data, which stand in front in the mail buffer
-  pub octets : ℕ
-  -- its sequence number, 0 until it first goes
-  pub number : ℕ
-  -- since it last went: ticks and takings, up to what a resend waits for, and whether a status came that asks for one
-  pub ticks : ℕ
-  pub takings : ℕ
-  pub asked : Bool
-  -- how often it was sent again
-  pub resends : ℕ
-
+-- the slot: the message that waits to go or to be confirmed, or what became of the last one. (E9 of paper 02 has eight of them.)
 abbrev pub noMessage : Message
 noMessage = record { destination = 0; code = 0; size = 0; address = 0; result = 0 }
 

@@ -9,8 +9,9 @@ use Rattle.station.specs.Rules.State.{isParticipating}
 use Rattle.station.specs.declared.Heard.{Heard}
 use Rattle.station.specs.declared.Heard.the-variants as heard
 use Rattle.station.specs.declared.Station.{Station}
-use Rattle.message_rules.specs.Again.{isUnconfirmed, slotAnswered}
-use Rattle.message_rules.specs.State.{Slot, Messages, withSlot, withHeard}
+use Rattle.message_rules.specs.Rules.Again.{isUnconfirmed, slotAnswered}
+use Rattle.message.specs.declared.Slot.{Slot}
+use Rattle.message_rules.specs.Rules.State.{Messages, withSlot, withHeard}
 
 -- as many confirmations as one cyclic transmission may carry (10.2)
 abbrev pub owedMost : ℕ

@@ -6,8 +6,9 @@ use Rattle.panel.specs.declared.Panel.{Panel}
 use Rattle.station.specs.Rules.Asking.{dueIn}
 use Rattle.station.specs.Rules.State.{isParticipating}
 use Rattle.station.specs.declared.Station.{Station}
-use Rattle.message_rules.specs.Again.{isToGo}
-use Rattle.message_rules.specs.State.{Slot, Messages}
+use Rattle.message_rules.specs.Rules.Again.{isToGo}
+use Rattle.message.specs.declared.Slot.{Slot}
+use Rattle.message_rules.specs.Rules.State.{Messages}
 
 -- "No message goes before a cycle is measured": the panel has had two takings since we began to participate
 abbrev pub isMeasured : Panel → Bool

@@ -25,13 +25,13 @@ use Rattle.station.specs.declared.Station.{Station}
 use Rattle.station.specs.declared.Switched.{Switched}
 use Rattle.station.specs.declared.Switched.the-variants as switched
 use Rattle.station.specs.declared.Ticked.{Ticked}
-use Rattle.message_rules.specs.Again.{ticked, turned, gone, letterGoing}
-use Rattle.message_rules.specs.Confirming.{Carried, carriedIn, afterFrame}
-use Rattle.message_rules.specs.Cycle.{goes}
-use Rattle.message_rules.specs.Hearing as letters
-use Rattle.message_rules.specs.Hearing.{isLetter, messageHeard}
-use Rattle.message_rules.specs.Posting.{mailRight, postOf}
-use Rattle.message_rules.specs.State.{Messages, noMessages, begun, withHeard}
+use Rattle.message_rules.specs.Rules.Again.{ticked, turned, gone, letterGoing}
+use Rattle.message_rules.specs.Rules.Confirming.{Carried, carriedIn, afterFrame}
+use Rattle.message_rules.specs.Rules.Cycle.{goes}
+use Rattle.message_rules.specs.Rules.Hearing as letters
+use Rattle.message_rules.specs.Rules.Hearing.{isLetter, messageHeard}
+use Rattle.message_rules.specs.Rules.Posting.{mailRight, postOf}
+use Rattle.message_rules.specs.Rules.State.{Messages, noMessages, begun, withHeard}
 
 -- a station with messages: its ring part, which is a station of the base, and its message part
 pub record Both : Type 0 where

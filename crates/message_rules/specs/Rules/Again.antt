@@ -4,7 +4,8 @@ use Rattle.message.specs.Codes.{toAll}
 use Rattle.message.specs.declared.Letter.{Letter}
 use Rattle.message.specs.declared.Mail.{Mail}
 use Rattle.message.specs.declared.Mail.the-variants.{Nothing, Waiting, Unconfirmed, Confirmed, Sent, Failed}
-use Rattle.message_rules.specs.State.{Slot, Messages, withSlot, withGone, withTurn}
+use Rattle.message.specs.declared.Slot.{Slot}
+use Rattle.message_rules.specs.Rules.State.{Messages, withSlot, withGone, withTurn}
 
 abbrev pub isWaiting : Mail → Bool
 isWaiting Nothing = false

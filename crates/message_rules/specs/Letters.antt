@@ -1,0 +1,3 @@
+-- A message that goes, heard.
+pub mod LetterSent
+pub mod LetterAccepted
