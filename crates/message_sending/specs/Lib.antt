@@ -1,5 +1,0 @@
--- What is proved of a message that is sent.
-pub mod CycleEdges
-pub mod Slots
-pub mod Moves
-pub mod Went
