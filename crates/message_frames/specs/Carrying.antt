@@ -6,7 +6,6 @@ use lib.ListN.{length-append, length-drop, List·getD-append}
 use lib.Seq.{drop-at, getD-append-add, getD-take, length-take-le}
 use borrow.Author.Tests.{le-leb, ltb-true, eqb-false, not-true}
 use Rattle.copying.specs.Laws.{length-pasted}
-use Rattle.copying.specs.Pasted.{pasted}
 use Rattle.copying.specs.Places.{paste-in, paste-outside, drop-behind}
 use Rattle.frame.specs.Octets.{octetAt, wordAt, longAt}
 use Rattle.frame.specs.Positions.{TFL, BSIZE}
@@ -14,7 +13,7 @@ use Rattle.frame_round_trip.specs.Digits.{word-back, long-back}
 use Rattle.frame_writing.specs.Writing.{long}
 use Rattle.laws.specs.Tests.{both, first, second}
 use Rattle.message.specs.declared.Confirmation.{Confirmation}
-use Rattle.message_frames.specs.Confirmations.{confirmationOctets, inserted, carrying, isSet, confirms, confirmationIn}
+use Rattle.message_frames.specs.Confirmations.{confirmationOctets, raised, flag, lengthened, flagged, carrying, isSet, confirms, confirmationIn}
 use Rattle.message_frames.specs.Places.{M-CTL, RPL, confirmationLength}
 
 -- a place in the header that is neither of TFL nor the first octet of M_CTL
@@ -22,17 +21,14 @@ abbrev pub isElsewhere : ℕ → Bool
 isElsewhere at = ltb at 64 && ((ltb at 4 || ltb 7 at) && not (eqb at 24))
 
 module _ (confirmation : Confirmation) (s : List ℕ) (whole : 64 ≤ length s) where
-  abbrev lengthened : List ℕ
-  lengthened = pasted s TFL (long (length s + confirmationLength))
-
   abbrev changed : List ℕ
-  changed = pasted lengthened M-CTL (RPL ∷ [])
+  changed = flagged (lengthened s)
 
-  length-lengthened : length lengthened ≡ length s
-  length-lengthened = length-pasted s (long (length s + confirmationLength)) TFL (omega arith)
+  length-lengthened : length (lengthened s) ≡ length s
+  length-lengthened = length-pasted s (raised s) TFL (omega arith)
 
   length-changed : length changed ≡ length s
-  length-changed = length-pasted lengthened (RPL ∷ []) M-CTL (rw length-lengthened (omega arith)) ∙ length-lengthened
+  length-changed = length-pasted (lengthened s) flag M-CTL (rw length-lengthened (omega arith)) ∙ length-lengthened
 
   front-length : length (take 64 changed) ≡ 64
   front-length = length-take-le 64 changed (rw length-changed (omega arith))
@@ -58,19 +54,19 @@ module _ (confirmation : Confirmation) (s : List ℕ) (whole : 64 ≤ length s) 
       let one = first (ltb at 4 || ltb 7 at) _ rest in
       let other = eqb-false at 24 (not-true _ (second (ltb at 4 || ltb 7 at) _ rest)) in
       header-octet at header
-      ∙ paste-outside lengthened (RPL ∷ []) M-CTL (rw length-lengthened (omega arith)) at (λ f b. other (omega arith))
-      ∙ paste-outside s (long (length s + confirmationLength)) TFL (omega arith) at (λ f b. by (ltb at 4) refl one f b)
+      ∙ paste-outside (lengthened s) flag M-CTL (rw length-lengthened (omega arith)) at (λ f b. other (omega arith))
+      ∙ paste-outside s (raised s) TFL (omega arith) at (λ f b. by (ltb at 4) refl one f b)
     where
       by : (low : Bool) → ltb at 4 ≡ low → (low || ltb 7 at) ≡ true → 4 ≤ at → at < 8 → ⊥
       by true e o f b = let h = ltb-true at 4 e in omega arith
       by false e o f b = let h = ltb-true 7 at o in omega arith
 
   -- TFL
-  length-octet : (i : ℕ) → i < 4 → octetAt (carrying confirmation s) (4 + i) ≡ octetAt (long (length s + confirmationLength)) i
+  length-octet : (i : ℕ) → i < 4 → octetAt (carrying confirmation s) (4 + i) ≡ octetAt (raised s) i
   length-octet i h =
       header-octet (4 + i) (omega arith)
-      ∙ paste-outside lengthened (RPL ∷ []) M-CTL (rw length-lengthened (omega arith)) (4 + i) (λ f b. omega arith)
-      ∙ paste-in s (long (length s + confirmationLength)) TFL (omega arith) i h
+      ∙ paste-outside (lengthened s) flag M-CTL (rw length-lengthened (omega arith)) (4 + i) (λ f b. omega arith)
+      ∙ paste-in s (raised s) TFL (omega arith) i h
 
   pub length-read : longAt (carrying confirmation s) TFL ≡ length s + confirmationLength
   length-read =
@@ -88,8 +84,8 @@ module _ (confirmation : Confirmation) (s : List ℕ) (whole : 64 ≤ length s) 
       ap (drop 84) (sym (append-assoc (take 64 changed) (confirmationOctets confirmation) (drop 64 changed)))
       ∙ drop-at (take 64 changed ++ confirmationOctets confirmation) (drop 64 changed) 84
       (length-append (take 64 changed) (confirmationOctets confirmation) ∙ ap (λ (n : ℕ). n + 20) front-length)
-      ∙ drop-behind lengthened (RPL ∷ []) M-CTL 64 (rw length-lengthened (omega arith)) (omega arith)
-      ∙ drop-behind s (long (length s + confirmationLength)) TFL 64 (omega arith) (omega arith)
+      ∙ drop-behind (lengthened s) flag M-CTL 64 (rw length-lengthened (omega arith)) (omega arith)
+      ∙ drop-behind s (raised s) TFL 64 (omega arith) (omega arith)
 
   -- the octets of the confirmation
   confirmation-octet : (i : ℕ) → i < 20 → octetAt (carrying confirmation s) (64 + i) ≡ octetAt (confirmationOctets confirmation) i
@@ -101,7 +97,7 @@ module _ (confirmation : Confirmation) (s : List ℕ) (whole : 64 ≤ length s) 
   control-octet : octetAt (carrying confirmation s) M-CTL ≡ RPL
   control-octet =
       header-octet 24 (omega arith)
-      ∙ paste-in lengthened (RPL ∷ []) M-CTL (rw length-lengthened (omega arith)) 0 (omega arith)
+      ∙ paste-in (lengthened s) flag M-CTL (rw length-lengthened (omega arith)) 0 (omega arith)
 
   -- it reads back to what it says
   pub confirmation-read : confirmationIn (carrying confirmation s) ≡ confirmation

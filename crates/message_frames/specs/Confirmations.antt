@@ -22,10 +22,20 @@ inserted octets frame = take headerLength frame ++ (octets ++ drop headerLength 
 
 -- A cyclic frame of ours with a confirmation in it: TFL is 20 more, RPL is set, and the 20 octets stand between header and data. (The first octet of
 -- M_CTL is 0 in every cyclic frame that we write.)
+abbrev pub raised : List ℕ → List ℕ
+raised frame = long (length frame + confirmationLength)
+
+abbrev pub flag : List ℕ
+flag = RPL ∷ []
+
+abbrev pub lengthened : List ℕ → List ℕ
+lengthened frame = pasted frame TFL (raised frame)
+
+abbrev pub flagged : List ℕ → List ℕ
+flagged frame = pasted frame M-CTL flag
+
 abbrev pub carrying : Confirmation → List ℕ → List ℕ
-carrying confirmation frame =
-    inserted (confirmationOctets confirmation)
-    (pasted (pasted frame TFL (long (length frame + confirmationLength))) M-CTL (RPL ∷ []))
+carrying confirmation frame = inserted (confirmationOctets confirmation) (flagged (lengthened frame))
 
 -- whether a cyclic frame has a confirmation: RPL is set, the 20 octets stand before the data, and A_NUM is 1. A_VER isn't looked at.
 abbrev pub isSet : ℕ → ℕ → Bool

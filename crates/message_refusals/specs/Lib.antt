@@ -1,2 +1,4 @@
 -- The refusals of a station with messages.
 pub mod Left
+pub mod Applies
+pub mod FirstApplies

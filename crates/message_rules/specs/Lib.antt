@@ -1,5 +1,6 @@
 -- The rules of messages, and what is proved of them.
 pub mod Rules
+pub mod Cases
 pub mod Outcomes
 pub mod Ring
 pub mod Carried

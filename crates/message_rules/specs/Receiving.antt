@@ -2,3 +2,4 @@
 pub mod Sources
 pub mod Once
 pub mod Owed
+pub mod Eight

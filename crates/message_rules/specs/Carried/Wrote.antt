@@ -14,7 +14,7 @@ use Rattle.message_frames.specs.Carrying.{length-carrying}
 use Rattle.message_frames.specs.Confirmations.{carrying}
 use Rattle.message_frames.specs.Places.{confirmationLength}
 use Rattle.message_rules.specs.Rules.Calls.{Both, hearOf, carriedBy}
-use Rattle.message_rules.specs.Rules.Confirming.{withConfirmation, carriedIn}
+use Rattle.message_rules.specs.Rules.Confirming.{Carried, carriedIn}
 use Rattle.message_rules.specs.Rules.Hearing.{isLetter}
 use Rattle.station.specs.Rules.Asking as asking
 use Rattle.station.specs.Rules.Hearing as hearing
@@ -27,6 +27,12 @@ pub data Wrote (s : List ℕ) : List ℕ → Type 0 where
   alone : Wrote s s
   carries : (confirmation : Confirmation) → Wrote s (carrying confirmation s)
 
+-- of two
+either : {s : List ℕ} (test : Bool) (one other : Carried) → Wrote s (take (one .count) (one .output)) → Wrote s (take (other .count) (other .output))
+    → Wrote s (take (cond test one other .count) (cond test one other .output))
+either true one other p q = p
+either false one other p q = q
+
 -- "with 20 octets more", in front in the output
 module _ (count : ℕ) (output : List ℕ) (long : length (take count output) ≡ count) (least : 64 ≤ count) where
   pub put-in : (confirmation : Confirmation) → take (count + confirmationLength) (carrying confirmation (take count output) ++ drop (count + confirmationLength) output)
@@ -37,23 +43,12 @@ module _ (count : ℕ) (output : List ℕ) (long : length (take count output) �
 
   owed-wrote : (owed : List Confirmation) → Wrote (take count output) (take (carriedIn owed count output .count) (carriedIn owed count output .output))
   owed-wrote [] = alone
-  owed-wrote (confirmation ∷ rest) = by (leb (count + confirmationLength) (length output))
-    where
-      by : (fits : Bool) → Wrote (take count output)
-          (take (cond fits (withConfirmation confirmation rest count output) (record { owed = confirmation ∷ rest; count = count; output = output }) .count)
-          (cond fits (withConfirmation confirmation rest count output) (record { owed = confirmation ∷ rest; count = count; output = output }) .output))
-      by true = subst (Wrote (take count output)) (sym (put-in confirmation)) (carries confirmation)
-      by false = alone
+  owed-wrote (confirmation ∷ rest) =
+      either (leb (count + confirmationLength) (length output)) _ _ (subst (Wrote (take count output)) (sym (put-in confirmation)) (carries confirmation)) alone
 
   pub asked-wrote : (both : Both) → Wrote (take count output)
       (take (carriedBy both (asked.Octets count) output .count) (carriedBy both (asked.Octets count) output .output))
-  asked-wrote both = by (isParticipating (both .ring .phase) && asking.isLast (both .ring))
-    where
-      by : (token : Bool) → Wrote (take count output)
-          (take (cond token (carriedIn (both .messages .owed) count output) (record { owed = both .messages .owed; count = count; output = output }) .count)
-          (cond token (carriedIn (both .messages .owed) count output) (record { owed = both .messages .owed; count = count; output = output }) .output))
-      by true = owed-wrote (both .messages .owed)
-      by false = alone
+  asked-wrote both = either (isParticipating (both .ring .phase) && asking.isLast (both .ring)) _ _ (owed-wrote (both .messages .owed)) alone
 
 module _ {s : List ℕ} {fields : Fields} (plain : Plain s fields) where
   -- it reads as the frame, but for its length,

@@ -47,7 +47,7 @@ judged-unrefused Repeat letter = refl
 judged-unrefused New letter = refl
 
 module _ (station : Station) (messages : Messages) (given : ℕ) (letter : Letter) where
-  delivered-unrefused : receivedVerdict (letters.delivered station messages letter .answer) ≡ unrefused
+  pub delivered-unrefused : receivedVerdict (letters.delivered station messages letter .answer) ≡ unrefused
   delivered-unrefused = by (isOff (station .phase)) (letters.isForUs station letter) (letters.isHeld messages letter)
     where
       taken : letters.Hearing

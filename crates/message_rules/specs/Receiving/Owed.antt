@@ -171,7 +171,7 @@ inside-of Startup e = absurd (false≢true e)
 inside-of Joining e = absurd (false≢true e)
 inside-of Participating e = refl
 
-turned-owes : (taking : Bool) (messages : Messages) → turned taking messages .owed ≡ messages .owed
+pub turned-owes : (taking : Bool) (messages : Messages) → turned taking messages .owed ≡ messages .owed
 turned-owes true messages = refl
 turned-owes false messages = refl
 
@@ -250,13 +250,13 @@ switch-owes : (both : Both) (call : Call) (confirmation : Confirmation) {left : 
 switch-owes both call confirmation fresh (on-switching.refuses refusal) turns is e = owed (ap (λ (b : Both). isOwed confirmation (b .messages .owed)) is ∙ e)
 switch-owes both call confirmation fresh (on-switching.does reason) turns is e = switched (ap (λ (b : Both). isOff (b .ring .phase)) is ∙ turns reason)
 
-post-owes : {station : Station} {messages : Messages} {message : Message} {octets mail : List ℕ} {result : Posting}
+pub post-owes : {station : Station} {messages : Messages} {message : Message} {octets mail : List ℕ} {result : Posting}
     → PostCases station messages message octets mail result → result .messages .owed ≡ messages .owed
 post-owes (outcomes.refuses refusal) = refl
 post-owes (outcomes.off out) = refl
 post-owes (outcomes.waits right sendable free on) = refl
 
-frame-owes : (station : Station) (messages : Messages) (octets : List ℕ) (answer : Heard) → afterFrame station messages octets answer .owed ≡ messages .owed
+pub frame-owes : (station : Station) (messages : Messages) (octets : List ℕ) (answer : Heard) → afterFrame station messages octets answer .owed ≡ messages .owed
 frame-owes station messages octets answer =
     by (isParticipating (station .phase) && (isCyclicAnswer answer && confirms octets))
     (speaksOf (station .own .number) messages (octetAt octets SNA) (confirmationIn octets))

@@ -11,7 +11,7 @@ use Rattle.message_rules.specs.Rules.Calls.{Both, Call, start, stop, tic
 use Rattle.message_rules.specs.Rules.Hearing.{Hearing, isLetter, isTaken, messageHeard}
 use Rattle.message_rules.specs.Outcomes.{LetterCases, Accepts, refuses, turnsOff, off, passes, holds, takes, letter-cases}
 use Rattle.message_rules.specs.Rules.Posting.{mailRight}
-use Rattle.message_rules.specs.Rules.State.{Messages}
+use Rattle.message_rules.specs.Rules.State.{Messages, noMessages}
 use Rattle.settling.specs.Append.{after-append}
 use Rattle.settling.specs.Steps.{afterAll}
 use Rattle.station.specs.Rules.Calls as base
@@ -74,6 +74,10 @@ letter-ring both octets memory assembly letter inside =
     let other : ownNumberHeard (both .ring) octets ≡ false =
     rw (inside, and-false (isTaken (both .ring) (letterIn octets)), and-false (addressed (letterIn octets))) in
     rw letter (heard-on (both .ring) (both .messages) octets (letter-cases (both .ring) (both .messages) (length octets) (letterIn octets)) other)
+
+-- Stop leaves nothing of messages.
+pub stop-forgets : (both : Both) → isOff (both .ring .phase) ≡ false → after both stop ≡ record { ring = stopped (both .ring); messages = noMessages }
+stop-forgets both on = rw (on, after)
 
 -- The ring part after a call on both is what the call of the base leaves, or is as it was where there is none.
 pub ring-part : (both : Both) (call : Call) → after both call .ring ≡ afterAll base.after (both .ring) (onRing both call)
