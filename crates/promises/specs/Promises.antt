@@ -215,7 +215,8 @@ disturbed-ring-delivered = delivered-settles
 
 -- DEMAND 1: every call gets an answer, "either a result or a number from the table".
 
--- Order: 11, 10, 1, 2, 3, 4, 5, 6, 7, 14, 15, 8, 9, "the first that applies".
+-- Order: 11, 10, 1, 2, 3, 4, 5, 6, 7, 14, 15, 8, 9, "the first that applies". (The table has 12 and 13 behind 11, which none of these calls answers: they are
+-- of messages.)
 pub answered : (station : Station) (call : Call) → verdict station call ≡ firstOf (λ refusal. applies refusal station call) order
 answered = first-applies
 

@@ -1,5 +1,5 @@
 -- Clause 9.3.3 d and e 1 of JEM 1479: a message that goes, its number, and sending it again.
-use Rattle.laws.specs.Usual.{Bool, true, false, cond, _&&_, _||_, ℕ, _+_, min, eqb, leb}
+use Rattle.laws.specs.Usual.{Bool, true, false, cond, not, _&&_, _||_, ℕ, _+_, min, eqb, leb}
 use Rattle.message.specs.Codes.{toAll}
 use Rattle.message.specs.declared.Letter.{Letter}
 use Rattle.message.specs.declared.Mail.{Mail}
@@ -124,11 +124,15 @@ slotGone messages = record {
   resends = cond (isWaiting (messages .slot .mail)) 0 (messages .slot .resends + 1);
 }
 
+-- a number is given at the first going alone
+abbrev pub givenTo : Bool → Messages → ℕ → ℕ
+givenTo kind messages last = cond (isWaiting (messages .slot .mail) && kind) (newNumber messages) last
+
 abbrev pub gone : Messages → Messages
 gone messages =
     withGone messages (slotGone messages)
-    (cond (toAll (messages .slot .message .destination)) (messages .lastOneToOne) (numberGoing messages))
-    (cond (toAll (messages .slot .message .destination)) (numberGoing messages) (messages .lastToAll))
+    (givenTo (not (toAll (messages .slot .message .destination))) messages (messages .lastOneToOne))
+    (givenTo (toAll (messages .slot .message .destination)) messages (messages .lastToAll))
 
 -- the frame that it goes in
 abbrev pub letterGoing : ℕ → Messages → Letter

@@ -8,7 +8,7 @@ use Rattle.message.specs.declared.Mail.the-variants.{Nothing, Waiting, Unconfir
 use Rattle.message.specs.declared.Message.{Message}
 use Rattle.message.specs.declared.Posted.{Posted}
 use Rattle.message.specs.declared.Posted.the-variants as posted
-use Rattle.message_rules.specs.Rules.Again.{isWaiting, isUnconfirmed, isDue, isToGo, slotGone}
+use Rattle.message_rules.specs.Rules.Again.{isWaiting, isUnconfirmed, isDue, isToGo, numberAfter, slotGone, gone, letterGoing}
 use Rattle.message_rules.specs.Rules.Calls.{Both, neverBoth, Call, start, stop, tick, post, hear, ask, after, takes, Asking}
 use Rattle.message_rules.specs.Rules.Cycle.{isMeasured, cycleLets, isBeforeBlocks, goes}
 use Rattle.message_rules.specs.Outcomes as outcomes
@@ -197,3 +197,15 @@ told-all (call ∷ calls) both times told = told-all calls (after both call) (we
 pub went-told : (calls : List Call)
     → Counts (afterAll after neverBoth calls .messages .slot .mail) (afterAll after neverBoth calls .messages .slot .resends) (timesWent 0 neverBoth calls)
 went-told calls = told-all calls neverBoth 0 (told-other Nothing refl refl tt) .counts
+
+-- While a message is unconfirmed, what goes is that message again, with its number, and no number is given; one that waits gets the number after the last of
+-- its line.
+pub resend-same : (own : ℕ) (messages : Messages) → messages .slot .mail ≡ Unconfirmed
+    → (letterGoing own messages .number ≡ messages .slot .number) × (letterGoing own messages .message ≡ messages .slot .message)
+    × (gone messages .lastOneToOne ≡ messages .lastOneToOne) × (gone messages .lastToAll ≡ messages .lastToAll)
+resend-same own messages e = (rw e, refl, rw e, rw e)
+
+pub first-number : (own : ℕ) (messages : Messages) → messages .slot .mail ≡ Waiting → toAll (messages .slot .message .destination) ≡ false
+    → (letterGoing own messages .number ≡ numberAfter (messages .lastOneToOne)) × (gone messages .lastOneToOne ≡ letterGoing own messages .number)
+    × (gone messages .lastToAll ≡ messages .lastToAll)
+first-number own messages e single = (rw (e, single), rw (e, single), rw (e, single))
