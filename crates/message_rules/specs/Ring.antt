@@ -3,3 +3,4 @@ pub mod OnRing
 pub mod RingPart
 pub mod Reached
 pub mod Buffers
+pub mod Turns
