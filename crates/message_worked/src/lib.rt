@@ -1,0 +1,1 @@
+// Worked rings of stations with messages. There is no code here.
