@@ -1,10 +1,7 @@
 -- No message code is one of the four codes of the base. Assumes nothing.
-use Rattle.laws.specs.Usual.{_≡_, refl, sym, ap, _∙_, Bool, true, false, cond, false≢true, ℕ, eqb}
+use Rattle.laws.specs.Usual.{_≡_, refl, sym, ap, _∙_, Bool, true, false, false≢true, ℕ, eqb}
 use borrow.Author.Tests.{eqb-true}
 use Rattle.frame.specs.Codes.{codeOf, isKnown}
-use Rattle.frame.specs.declared.Code.the-variants.{Token, Cyclic, Request, Trigger}
-use Rattle.frame.specs.declared.Coded.{Coded}
-use Rattle.frame.specs.declared.Coded.the-variants.{Known, Unknown}
 use Rattle.message.specs.Codes.{isMessage}
 
 -- a number that is no message code is another than one that is

@@ -1,6 +1,6 @@
 -- A frame with a confirmation in it, octet by octet: the fields that the base reads are those of the frame without it, but for its length, and so are the
 -- data; and the confirmation reads back. Assumes nothing.
-use Rattle.laws.specs.Usual.{_≡_, refl, sym, ap, ap₂, _∙_, Bool, true, false, not, _&&_, _||_, List, [], _∷_, _++_, ℕ, _+_, _-_, _*_, _<_, _≤_, arith, length, getD, take, drop, eqb, leb, ltb}
+use Rattle.laws.specs.Usual.{_≡_, refl, sym, ap, ap₂, _∙_, Bool, true, false, not, _&&_, _||_, List, _++_, ℕ, _+_, _-_, _*_, _<_, _≤_, arith, length, take, drop, eqb, ltb}
 use mathlib.Core.List.{append-assoc}
 use lib.ListN.{length-append, length-drop, List·getD-append}
 use lib.Seq.{drop-at, getD-append-add, getD-take, length-take-le}
@@ -10,7 +10,6 @@ use Rattle.copying.specs.Places.{paste-in, paste-outside, drop-behind}
 use Rattle.frame.specs.Octets.{octetAt, wordAt, longAt}
 use Rattle.frame.specs.Positions.{TFL, BSIZE}
 use Rattle.frame_round_trip.specs.Digits.{word-back, long-back}
-use Rattle.frame_writing.specs.Writing.{long}
 use Rattle.laws.specs.Tests.{both, first, second}
 use Rattle.message.specs.declared.Confirmation.{Confirmation}
 use Rattle.message_frames.specs.Confirmations.{confirmationOctets, raised, flag, lengthened, flagged, carrying, isSet, confirms, confirmationIn}

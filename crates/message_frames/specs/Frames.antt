@@ -1,5 +1,5 @@
 -- E2 of paper 02, with Tables 20 and 24 to 26 of JEM 1479: the frame that a message goes in.
-use Rattle.laws.specs.Usual.{Bool, cond, _&&_, List, _++_, ℕ, _+_, _-_, _/_, _%_, length, take, drop, leb}
+use Rattle.laws.specs.Usual.{Bool, cond, _&&_, List, _++_, ℕ, _+_, _-_, _/_, _%_, take, drop, leb}
 use Rattle.frame.specs.Octets.{octetAt, wordAt, longAt}
 use Rattle.frame.specs.Positions.{headerLength, SNA, DNA, TCD, BSIZE}
 use Rattle.frame_reading.specs.Reading.{isStation}

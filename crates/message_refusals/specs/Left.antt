@@ -1,8 +1,7 @@
 -- Demand 1, with messages: "a numbered refusal changes no buffer, and no station state except in the one case that the table names". Assumes nothing.
-use Rattle.laws.specs.Usual.{_≡_, refl, sym, ap, ap₂, _∙_, Bool, true, false, cond, not, _&&_, _||_, false≢true, List, [], _∷_, ℕ, arith, length}
+use Rattle.laws.specs.Usual.{_≡_, refl, sym, ap, ap₂, _∙_, Bool, true, false, cond, not, _&&_, _||_, List, [], _∷_, ℕ, arith, length}
 use mathlib.Core.Bool.{and-false}
 use mathlib.Core.List.{head-eq-of-cons-eq, tail-eq-of-cons-eq}
-use borrow.Author.Tests.{not-true}
 use Rattle.frame.specs.declared.Refusal.{Refusal}
 use Rattle.frame.specs.declared.Refusal.the-variants as refusals
 use Rattle.laws.specs.Tests.{first}

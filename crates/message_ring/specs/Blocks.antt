@@ -1,29 +1,24 @@
 -- An asking at a station with messages where no message goes: to the ring parts it is the asking at a ring of the base. Assumes nothing.
-use Rattle.laws.specs.Usual.{_≡_, refl, sym, ap, ap₂, _∙_, Bool, true, false, cond, _&&_, List, [], _∷_, ℕ, _+_, _≤_, arith, length, take, eqb}
-use native.Mathlib.Decide.{ℕ-discrete}
-use borrow.Author.Tests.{eq-eqb, ne-eqb, eqb-true}
-use Rattle.frame.specs.Codes.{isToken, isCyclic}
+use Rattle.laws.specs.Usual.{_≡_, refl, sym, ap, _∙_, Bool, true, false, cond, List, ℕ, _+_, _≤_, arith, length, take}
 use Rattle.frame.specs.declared.Fields.{Fields}
 use Rattle.frame.specs.declared.Refusal.the-variants as refusals
 use Rattle.frame_reading.specs.Reading.{isStation, readOf, dataSize}
-use Rattle.frame_reading.specs.declared.Read.{Read}
 use Rattle.frame_reading.specs.declared.Read.the-variants.{Frame}
 use Rattle.frame_writing.specs.Writing.{wholeLength}
 use Rattle.message_rules.specs.Carried.CarriedRead.{Plain, plain-of}
 use Rattle.message_rules.specs.Carried.Wrote.{Wrote, asked-wrote, wrote-read, wrote-ring}
-use Rattle.message_ring.specs.Events.{Boths, ringsOf, handed}
+use Rattle.message_ring.specs.Events.{handed}
 use Rattle.message_rules.specs.Rules.Calls.{Both, blockAsked, carriedBy, answerBy}
 use Rattle.ring.specs.Counts.{givenBy, tokenTo}
 use Rattle.ring.specs.Events as base
 use Rattle.ring.specs.Events.{Lent}
 use Rattle.ring.specs.Member.{InRing}
-use Rattle.ring.specs.Steps.{sends, cyclic-is, idle-station, idle-answer, asked-answer, asked-read}
+use Rattle.ring.specs.Steps.{sends, cyclic-is, idle-answer, asked-answer, asked-read}
 use Rattle.settling.specs.Ring.{_∈_, next}
 use Rattle.station.specs.Rules.Asking as asking
 use Rattle.station.specs.Rules.State.{holds}
 use Rattle.station.specs.declared.Asked.{Asked}
 use Rattle.station.specs.declared.Asked.the-variants as answers
-use Rattle.station.specs.declared.Station.{Station}
 
 -- the sender, a station of the ring
 module _ (numbers : List ℕ) (next-in : (x : ℕ) → x ∈ numbers → next numbers x ∈ numbers) (are-stations : (x : ℕ) → x ∈ numbers → isStation x ≡ true)

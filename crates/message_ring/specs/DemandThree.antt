@@ -1,5 +1,5 @@
 -- Demand 3 of the ring of stations with messages. Assumes nothing.
-use Rattle.laws.specs.Usual.{_≡_, refl, sym, ap, subst, _∙_, Bool, true, false, _&&_, List, ℕ, arith, length, take, eqb, leb}
+use Rattle.laws.specs.Usual.{_≡_, refl, sym, ap, _∙_, true, _&&_, List, ℕ, arith, length, take, eqb, leb}
 use Rattle.area.specs.Areas.{memoryOctets}
 use Rattle.frame.specs.Codes.{isToken}
 use Rattle.frame.specs.declared.Fields.{Fields}
@@ -16,13 +16,12 @@ use Rattle.message_ring.specs.Demand.{LastCall, sent, heard, Disturbed, 
 use Rattle.message_ring.specs.Events.{Boths, ringsOf, viewsOf, Event, afterEvent, bothCounting, CanCome}
 use Rattle.message_ring.specs.Settles.{settles-from-both}
 use Rattle.message_rules.specs.Rules.Again.{letterGoing}
-use Rattle.message_rules.specs.Rules.Calls.{Both, after, ask, hear, hearOf, Hearing, Asking, receivedVerdict, carriedBy, answerBy}
+use Rattle.message_rules.specs.Rules.Calls.{Both, ask, hear, Hearing, Asking, receivedVerdict, carriedBy, answerBy}
 use Rattle.message_rules.specs.Outcomes as outcomes
 use Rattle.ring.specs.DemandThree.{Fresh, begins, are-stations}
 use Rattle.ring.specs.Just.{asked-zero, heard-zero}
 use Rattle.settling.specs.Counting.{AllName}
 use Rattle.settling.specs.First.{FirstAgreement, first-exists, agreed?}
-use Rattle.settling.specs.Ring.{_∈_}
 use Rattle.settling.specs.Steps.{EachFinds}
 use Rattle.station.specs.Outcomes.AskCases as on-asking
 use Rattle.station.specs.Outcomes.HearCases as on-hearing

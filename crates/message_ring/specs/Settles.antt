@@ -14,9 +14,8 @@ use Rattle.message_rules.specs.Letters.LetterSent.{asks-letter}
 use Rattle.message_ring.specs.Asked.{letter-handed, letter-gives}
 use Rattle.message_ring.specs.Blocks.{block-gives, block-handed}
 use Rattle.message_ring.specs.Events.{Boths, ringsOf, viewsOf, Event, asked, ticked, stray, handed, afterEvent, gives, asks, ends, bothCounting, Stray, refused, starts, posts, letters, harmless, CanCome}
-use Rattle.message_rules.specs.Rules.Calls.{Both, Call, hear, after, verdict, askOf, Asking, letterAsked, blockAsked}
+use Rattle.message_rules.specs.Rules.Calls.{Both, Call, hear, after, verdict, askOf, Asking, blockAsked}
 use Rattle.message_rules.specs.Rules.Cycle.{goes}
-use Rattle.message_rules.specs.Rules.Posting.{mailRight}
 use Rattle.misses.specs.MissHistory.{Brought}
 use Rattle.ring.specs.Counts as base-counts
 use Rattle.ring.specs.Events as base
@@ -30,10 +29,8 @@ use Rattle.settling.specs.First.{FirstAgreement}
 use Rattle.settling.specs.Next.{laws-of}
 use Rattle.settling.specs.Ring.{_∈_, next, viewAfterPass, Stations as Ascending}
 use Rattle.settling.specs.Steps.{EachFinds}
-use Rattle.station.specs.Rules.Asking as asking
 use Rattle.station.specs.Rules.Calls as station
 use Rattle.station.specs.Rules.State.{isParticipating}
-use Rattle.station.specs.declared.Asked.{Asked}
 use Rattle.station.specs.declared.Station.{Station}
 
 -- what is kept of a ring is kept of one with the same stations at its numbers

@@ -1,17 +1,15 @@
 -- The outcomes of hearing a message, of handing one in and of asking, each with what led there and what is left: whatever is proved of these calls goes by
 -- these. Assumes nothing.
-use Rattle.laws.specs.Usual.{_≡_, refl, sym, _∙_, Bool, true, false, cond, not, _&&_, _||_, false≢true, List, ℕ, length, eqb}
-use borrow.Author.Tests.{not-false}
+use Rattle.laws.specs.Usual.{_≡_, refl, Bool, true, false, cond, not, _&&_, List, ℕ, length}
 use Rattle.copying.specs.Pasted.{pasted}
 use Rattle.frame.specs.declared.Refusal.{Refusal}
 use Rattle.frame.specs.declared.Refusal.the-variants as refusals
 use Rattle.laws.specs.Tests.{first, second}
-use Rattle.members.specs.Members.{isListed}
 use Rattle.message.specs.declared.Letter.{Letter}
 use Rattle.message.specs.declared.Message.{Message}
 use Rattle.message.specs.declared.Posted.the-variants as posted
 use Rattle.message.specs.declared.Received.the-variants as received
-use Rattle.message_frames.specs.Frames.{letterIn, addressed, measured}
+use Rattle.message_frames.specs.Frames.{addressed, measured}
 use Rattle.station.specs.Rules.Asking as asking
 use Rattle.station.specs.Rules.Calls as base
 use Rattle.station.specs.Rules.Hearing.{hearOf}
@@ -24,8 +22,8 @@ use Rattle.message_rules.specs.Rules.Calls as calls
 use Rattle.message_rules.specs.Rules.Calls.{Both, letterHeard, frameHeard, Asking, letterAsked, blockAsked, askOf}
 use Rattle.message_rules.specs.Rules.Cycle.{goes}
 use Rattle.message_rules.specs.Rules.Hearing as letters
-use Rattle.message_rules.specs.Rules.Hearing.{Hearing, isLetter, isHeld, isForUs, isTaken, isStranger, need, unchanged, refused, messagesTaken, taken, delivered, judged, judgementOf, answerTo, messageHeard}
-use Rattle.message_rules.specs.Rules.Posting.{Posting, mailRight, isSendable, waiting, handedIn, postOf}
+use Rattle.message_rules.specs.Rules.Hearing.{Hearing, isLetter, isHeld, isForUs, isTaken, isStranger, need, unchanged, refused, judged, judgementOf, answerTo, messageHeard}
+use Rattle.message_rules.specs.Rules.Posting.{Posting, mailRight, isSendable, waiting, postOf}
 use Rattle.message_rules.specs.Rules.Posting as posting
 use Rattle.message_rules.specs.Rules.State.{Messages, noMessages, withSlot}
 

@@ -4,3 +4,4 @@ pub mod Slots
 pub mod Speaks
 pub mod Moves
 pub mod Went
+pub mod Writable

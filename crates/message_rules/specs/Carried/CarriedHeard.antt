@@ -1,13 +1,12 @@
 -- A station of the base hears a cyclic frame with a confirmation in it as it hears it without: state, answer and buffers are the same. Assumes nothing.
-use Rattle.laws.specs.Usual.{_≡_, refl, sym, ap, ap₂, _∙_, Bool, true, false, cond, _&&_, List, ℕ, _+_, length}
+use Rattle.laws.specs.Usual.{_≡_, refl, sym, ap, _∙_, cond, _&&_, List, ℕ, _+_, length}
 use Rattle.frame.specs.Codes.{isCyclic}
 use Rattle.frame.specs.declared.Code.{Code}
 use Rattle.frame.specs.declared.Code.the-variants.{Token, Cyclic, Request, Trigger}
 use Rattle.frame.specs.declared.Fields.{Fields}
 use Rattle.frame.specs.declared.Refusal.the-variants as refusals
-use Rattle.frame_reading.specs.Reading.{readHeaderOf, readBodyOf, dataOf}
+use Rattle.frame_reading.specs.Reading.{dataOf}
 use Rattle.frame_reading.specs.declared.Read.{Read}
-use Rattle.frame_reading.specs.declared.Read.the-variants.{Frame}
 use Rattle.frame_round_trip.specs.Accepted.{Accepted}
 use Rattle.message.specs.declared.Confirmation.{Confirmation}
 use Rattle.message_rules.specs.Carried.CarriedRead.{relength, Plain, accepted-with, data-with}

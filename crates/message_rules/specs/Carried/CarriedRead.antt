@@ -1,14 +1,13 @@
 -- The base reads a cyclic frame with a confirmation in it as it reads it without, but for its length. Assumes nothing.
 use Rattle.laws.specs.Usual.{_≡_, refl, sym, ap, ap₂, _∙_, Bool, true, cond, not, _&&_, _||_, List, ℕ, _+_, _-_, _*_, _≤_, arith, length, drop, eqb, leb}
 use mathlib.Core.Bool.{or-true}
-use borrow.Author.Tests.{le-leb, eq-eqb, eqb-true, leb-true}
+use borrow.Author.Tests.{le-leb, eq-eqb, eqb-true}
 use Rattle.block.specs.Blocks.{lengthOf}
 use Rattle.block.specs.Cut.{at-most}
 use Rattle.frame.specs.Codes.{codeOf, isCyclic}
 use Rattle.frame.specs.Octets.{octetAt, wordAt, longAt}
 use Rattle.frame.specs.Positions.{TFL, SNA, DNA, TCD, C-AD1, C-SZ1, C-AD2, C-SZ2, CBN, TBN, BSIZE, TW}
 use Rattle.frame.specs.declared.Code.{Code}
-use Rattle.frame.specs.declared.Coded.{Coded}
 use Rattle.frame.specs.declared.Fields.{Fields}
 use Rattle.frame_reading.specs.Reading.{marked, fieldsOf, totalled, numbered, measured, blocked, readOf, dataSize, dataOf}
 use Rattle.frame_reading.specs.declared.Read.the-variants.{Frame}

@@ -1,6 +1,6 @@
 -- What an asking writes where no message goes: the base's frame, or the base's frame with a confirmation put in. To whoever hears it, it is the base's frame.
 -- Assumes nothing.
-use Rattle.laws.specs.Usual.{_≡_, refl, sym, ap, subst, _∙_, Bool, true, false, cond, _&&_, List, [], _∷_, _++_, ℕ, _+_, _≤_, arith, length, take, drop, leb}
+use Rattle.laws.specs.Usual.{_≡_, refl, sym, ap, subst, _∙_, Bool, true, false, cond, _&&_, List, [], _∷_, _++_, ℕ, _+_, _≤_, length, take, drop, leb}
 use lib.Seq.{take-at}
 use Rattle.frame.specs.declared.Fields.{Fields}
 use Rattle.frame_reading.specs.Reading.{readOf}
@@ -15,7 +15,6 @@ use Rattle.message_frames.specs.Confirmations.{carrying}
 use Rattle.message_frames.specs.Places.{confirmationLength}
 use Rattle.message_rules.specs.Rules.Calls.{Both, hearOf, carriedBy}
 use Rattle.message_rules.specs.Rules.Confirming.{Carried, carriedIn}
-use Rattle.message_rules.specs.Rules.Hearing.{isLetter}
 use Rattle.station.specs.Rules.Asking as asking
 use Rattle.station.specs.Rules.Hearing as hearing
 use Rattle.station.specs.Rules.State.{isParticipating}

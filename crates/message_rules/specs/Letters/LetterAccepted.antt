@@ -1,6 +1,6 @@
 -- "the frames it writes read back to the same fields": a message that an asking writes does, and every participant that lists its sender accepts it. Assumes
 -- nothing.
-use Rattle.laws.specs.Usual.{_≡_, refl, sym, ap, _∙_, Bool, true, false, cond, not, _&&_, false≢true, List, ℕ, _-_, arith, length, take, drop, eqb}
+use Rattle.laws.specs.Usual.{_≡_, refl, ap, _∙_, Bool, true, false, cond, not, _&&_, false≢true, List, ℕ, _-_, length, take, drop}
 use mathlib.Core.Bool.{and-false}
 use borrow.Author.Tests.{ne-eqb}
 use Rattle.laws.specs.Tests.{first}
@@ -11,7 +11,7 @@ use Rattle.message.specs.declared.Letter.{Letter}
 use Rattle.message.specs.declared.Received.the-variants as received
 use Rattle.message_rules.specs.Letters.LetterSent.{asks-letter, octets-are, is-letter, few, enough}
 use Rattle.message_rules.specs.Ring.Reached.{Reachable, ring-sound}
-use Rattle.message_frames.specs.Frames.{letterIn, addressed, measured, wholeLength, frameOf, outputOf}
+use Rattle.message_frames.specs.Frames.{letterIn, addressed, measured, wholeLength, frameOf}
 use Rattle.message_frames.specs.ReadBack.{letter-read, letter-data, is-measured}
 use Rattle.message_rules.specs.Rules.Again.{letterGoing}
 use Rattle.message_rules.specs.Rules.Calls as calls

@@ -1,12 +1,11 @@
 -- "A repeat is handed to the host once": between two handings over of one source, kind, version and number lies one of that source and kind with another
 -- number, or another version of that source was registered, or the station was turned off. Assumes nothing.
-use Rattle.laws.specs.Usual.{_≡_, refl, sym, ap, ap₂, subst, _∙_, Bool, true, false, cond, not, _||_, false≢true, List, [], _∷_, ℕ, _<_, _≤_, arith, length, getD, set, eqb, leb}
+use Rattle.laws.specs.Usual.{_≡_, refl, sym, ap, ap₂, subst, _∙_, Bool, true, false, cond, not, _||_, false≢true, List, [], _∷_, ℕ, _<_, arith, length, eqb, leb}
 use mathlib.Core.Logic.{_⊎_, inl, inr}
 use native.Mathlib.Decide.{ℕ-discrete}
 use lib.ListN.{length-set}
 use lib.Seq.{getD-set-same, getD-set-other}
-use borrow.Author.Tests.{eq-eqb, eqb-true, eqb-false, leb-true}
-use Rattle.frame_reading.specs.Reading.{isStation}
+use borrow.Author.Tests.{eqb-true, eqb-false, leb-true}
 use Rattle.laws.specs.Tests.{second}
 use Rattle.message.specs.Codes.{toAll}
 use Rattle.message.specs.declared.Delivery.{Delivery}

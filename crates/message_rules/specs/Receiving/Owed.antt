@@ -1,6 +1,6 @@
 -- "Handed over" and "will be confirmed" go together: a message that is handed over is owed its confirmation from then until a token frame of ours carries it, or
 -- the station is turned off. Assumes nothing.
-use Rattle.laws.specs.Usual.{_≡_, refl, sym, ap, subst, _∙_, Bool, true, false, cond, not, _&&_, false≢true, List, [], _∷_, _++_, ℕ, _+_, _≤_, arith, length, take, eqb, leb}
+use Rattle.laws.specs.Usual.{_≡_, refl, sym, ap, _∙_, Bool, true, false, cond, not, _&&_, false≢true, List, [], _∷_, _++_, ℕ, _+_, _≤_, arith, length, take, eqb, leb}
 use mathlib.Core.Logic.{_⊎_, inl, inr}
 use borrow.Author.Tests.{eq-eqb, eqb-true}
 use Rattle.block.specs.Blocks.{blocksOf}
@@ -21,7 +21,7 @@ use Rattle.message_rules.specs.Carried.CarriedRead.{Plain, plain-of, pla
 use Rattle.message_rules.specs.Ring.Reached.{Reachable, ring-reached}
 use Rattle.message_rules.specs.Carried.Wrote.{put-in}
 use Rattle.message_frames.specs.Carrying.{confirmation-read, confirmation-seen}
-use Rattle.message_frames.specs.Confirmations.{carrying, confirms, confirmationIn}
+use Rattle.message_frames.specs.Confirmations.{confirms, confirmationIn}
 use Rattle.message_frames.specs.Frames.{letterIn}
 use Rattle.message_frames.specs.Places.{confirmationLength}
 use Rattle.message_rules.specs.Receiving.Once.{kindOf, HandsOver, hands, handed-new, judged-left}

@@ -1,7 +1,6 @@
 -- What every call can make of what we know of the sources. Assumes nothing.
 use Rattle.laws.specs.Usual.{_≡_, refl, sym, ap, _∙_, Bool, true, false, cond, not, _&&_, List, ℕ, length}
 use Rattle.laws.specs.Tests.{first, second}
-use Rattle.message.specs.declared.Letter.{Letter}
 use Rattle.message.specs.declared.Message.{Message}
 use Rattle.frame.specs.Octets.{octetAt}
 use Rattle.frame.specs.Positions.{SNA}
@@ -9,13 +8,13 @@ use Rattle.message_frames.specs.Confirmations.{confirms, confirmationIn}
 use Rattle.message_frames.specs.Frames.{letterIn}
 use Rattle.message_rules.specs.Rules.Again.{turned, slotAnswered}
 use Rattle.message_rules.specs.Rules.Calls.{Both, Call, start, stop, tick, post, hear, ask, after, isDone, takes, turnsOff, Hearing, Asking, hearOf}
-use Rattle.message_rules.specs.Rules.Confirming.{speaksOf, isCyclicAnswer, confirmed, afterFrame}
+use Rattle.message_rules.specs.Rules.Confirming.{speaksOf, isCyclicAnswer, afterFrame}
 use Rattle.message_rules.specs.Rules.Hearing as letters
 use Rattle.message_rules.specs.Rules.Hearing.{isLetter, isForUs, isHeld, judgementOf, knownAfter, answerTo}
 use Rattle.message_rules.specs.Outcomes as outcomes
 use Rattle.message_rules.specs.Outcomes.{Accepts}
 use Rattle.message_rules.specs.Rules.Posting.{Posting}
-use Rattle.message_rules.specs.Rules.State.{Sources, Messages, noSources, noMessages, begun, knownOf, withKnown, withSlot}
+use Rattle.message_rules.specs.Rules.State.{Messages, noSources, noMessages, begun, knownOf, withKnown, withSlot}
 use Rattle.station.specs.Outcomes.SwitchCases.{SwitchCases, refuses, does, start-cases, stop-cases}
 use Rattle.station.specs.Rules.Calls as base
 use Rattle.station.specs.Rules.Hearing as hearing

@@ -1,5 +1,5 @@
 -- The buffers: what a call on both leaves of the common memory, the assembly buffer and the turn buffer is what the call of the base leaves. Assumes nothing.
-use Rattle.laws.specs.Usual.{_≡_, refl, sym, ap, _∙_, Bool, true, false, cond, not, _&&_, List, ℕ, arith, getD}
+use Rattle.laws.specs.Usual.{_≡_, refl, sym, ap, _∙_, Bool, true, false, List, ℕ, arith, getD}
 use Rattle.frame.specs.Octets.{wordAt}
 use Rattle.frame.specs.Positions.{TCD}
 use Rattle.frame.specs.declared.Refusal.the-variants as refusals
@@ -8,19 +8,14 @@ use Rattle.frame_reading.specs.Reading.{whole, marked, long, readOf}
 use Rattle.frame_reading.specs.declared.Read.the-variants.{Frame, Refused}
 use Rattle.laws.specs.Tests.{first, second}
 use Rattle.message.specs.Apart.{message-unknown}
-use Rattle.message.specs.Codes.{isMessage}
 use Rattle.message.specs.declared.Received.the-variants as received
 use Rattle.message_rules.specs.Ring.Reached.{Reachable, ring-reached}
 use Rattle.message_rules.specs.Rules.Calls.{Both, Hearing, hearOf}
 use Rattle.message_rules.specs.Rules.Hearing.{isLetter}
 use Rattle.station.specs.Memory.MemorySame.{memory-same}
 use Rattle.station.specs.Memory.OursKept.{InAreas, ours-kept}
-use Rattle.station.specs.Rules.Answers.{dataOf}
 use Rattle.station.specs.Rules.Hearing as base
-use Rattle.station.specs.declared.Data.the-variants.{Written}
-use Rattle.station.specs.declared.Heard.the-variants as heard
 use Rattle.station.specs.declared.Station.{Station}
-use Rattle.station.specs.declared.Token.{Token}
 
 -- A frame is taken as a message only where the base answers 4,
 pub letter-four : (station : Station) (octets memory assembly : List ℕ) → isLetter octets memory assembly ≡ true

@@ -1,5 +1,5 @@
 -- The ring part does not move: what every call on both leaves of it is what the calls of the base leave. Assumes nothing.
-use Rattle.laws.specs.Usual.{_≡_, refl, sym, ap, ap₂, _∙_, Bool, true, false, cond, not, _&&_, false≢true, List, [], _∷_, _++_, ℕ, length}
+use Rattle.laws.specs.Usual.{_≡_, refl, sym, ap, _∙_, Bool, true, false, cond, not, false≢true, List, [], _∷_, ℕ, length}
 use mathlib.Core.Bool.{and-false}
 use borrow.Author.Tests.{not-true}
 use Rattle.frame.specs.declared.Refusal.the-variants as refusals
@@ -9,7 +9,7 @@ use Rattle.message_rules.specs.Ring.OnRing.{ownNumberHeard, writesLetter
 use Rattle.message_frames.specs.Frames.{letterIn, addressed}
 use Rattle.message_rules.specs.Rules.Calls.{Both, Call, start, stop, tick, post, hear, ask, after, hearOf, Hearing as Heard, Asking as Asked}
 use Rattle.message_rules.specs.Rules.Hearing.{Hearing, isLetter, isTaken, messageHeard}
-use Rattle.message_rules.specs.Outcomes.{LetterCases, Accepts, refuses, turnsOff, off, passes, holds, takes, letter-cases}
+use Rattle.message_rules.specs.Outcomes.{LetterCases, refuses, turnsOff, off, passes, holds, takes, letter-cases}
 use Rattle.message_rules.specs.Rules.Posting.{mailRight}
 use Rattle.message_rules.specs.Rules.State.{Messages, noMessages}
 use Rattle.settling.specs.Append.{after-append}

@@ -1,5 +1,5 @@
 -- "Half a turn is never seen", and the turn buffer: as they stand of the base, of a station with messages. Assumes nothing.
-use Rattle.laws.specs.Usual.{_≡_, refl, sym, ap, ap₂, subst, _∙_, Bool, true, false, cond, not, _&&_, false≢true, List, [], _∷_, ℕ, _<_, length, getD, take}
+use Rattle.laws.specs.Usual.{_≡_, refl, sym, ap, subst, _∙_, Bool, true, false, cond, not, _&&_, false≢true, List, [], _∷_, ℕ, _<_, length, getD, take}
 use Rattle.block.specs.Blocks.{octetsOf}
 use Rattle.frame.specs.declared.Fields.{Fields}
 use Rattle.members.specs.Members.{entryOf}
@@ -31,7 +31,6 @@ use Rattle.station.specs.Rules.Asking as asking
 use Rattle.station.specs.Rules.Calls as base
 use Rattle.station.specs.Rules.Hearing as hearing
 use Rattle.station.specs.declared.Data.the-variants.{Written}
-use Rattle.station.specs.declared.Heard.{Heard}
 use Rattle.station.specs.declared.Heard.the-variants as heard
 use Rattle.station.specs.declared.Station.{Station}
 use Rattle.station.specs.declared.Token.{Token}

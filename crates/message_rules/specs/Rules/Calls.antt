@@ -1,7 +1,6 @@
 -- All calls of a station with messages. "A call on both is the base's call on the ring part", and the message part looks at the ring part before and
 -- after. Two calls leave the ring part alone: handing in a message, and an asking that writes one.
 use Rattle.laws.specs.Usual.{Bool, true, false, cond, not, _&&_, List, [], _∷_, ℕ}
-use Rattle.frame.specs.declared.Refusal.{Refusal}
 use Rattle.frame.specs.declared.Refusal.the-variants as refusals
 use Rattle.message.specs.declared.Allowance.{Allowance}
 use Rattle.message.specs.declared.Mail.{Mail}

@@ -25,7 +25,8 @@ isBeforeBlocks station messages =
     (isParticipating (station .phase) && dueIn (station .phase) station)
     && (eqb (station .block) 0 && not (messages .wentNow))
 
--- its data fit a frame and its code is a message's, which always holds where calls alone made the state: what could not be sent does not go
+-- its data fit a frame and its code is a message's, which always holds where calls alone made the state (`always-writable`): what could not be sent
+-- does not go
 abbrev pub isWritable : Slot → Bool
 isWritable slot = leb (slot .octets) dataMost && isMessage (slot .message .code)
 

@@ -21,7 +21,7 @@ use Rattle.station.specs.Rules.State.{isOff, isParticipating}
 use Rattle.station.specs.declared.Heard.the-variants as heard
 use Rattle.station.specs.declared.Station.{Station}
 use Rattle.message_rules.specs.Rules.Confirming.{owing, isFull}
-use Rattle.message_rules.specs.Rules.State.{Known, Sources, Messages, noMessages, knownOf, withKnown, withHeard}
+use Rattle.message_rules.specs.Rules.State.{Known, Messages, noMessages, knownOf, withKnown, withHeard}
 
 -- the ring part and the message part after it, and the answer; no buffer is touched
 pub record Hearing : Type 0 where

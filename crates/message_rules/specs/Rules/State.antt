@@ -1,10 +1,9 @@
 -- The message part of a station (E2 of paper 02, clause 9.3.3 of JEM 1479): what it holds, and how it begins.
-use Rattle.laws.specs.Usual.{Bool, true, false, cond, List, [], _∷_, ℕ, _+_, max, length, getD, set, replicate, eqb, leb}
+use Rattle.laws.specs.Usual.{Bool, true, false, List, [], ℕ, max, getD, set, replicate}
 use Rattle.message.specs.declared.Allowance.{Allowance}
 use Rattle.message.specs.declared.Cycle.{Cycle}
 use Rattle.message.specs.declared.Confirmation.{Confirmation}
-use Rattle.message.specs.declared.Mail.{Mail}
-use Rattle.message.specs.declared.Mail.the-variants.{Nothing, Waiting, Unconfirmed, Confirmed, Sent, Failed}
+use Rattle.message.specs.declared.Mail.the-variants.{Nothing}
 use Rattle.message.specs.declared.Message.{Message}
 use Rattle.message.specs.declared.Slot.{Slot}
 

@@ -5,18 +5,17 @@ use borrow.Author.Tests.{eqb-true}
 use Rattle.frame.specs.Octets.{octetAt}
 use Rattle.frame.specs.Positions.{SNA}
 use Rattle.laws.specs.Tests.{first, second}
-use Rattle.message.specs.declared.Allowance.{Allowance}
 use Rattle.message.specs.declared.Letter.{Letter}
 use Rattle.message.specs.declared.Message.{Message}
 use Rattle.message_frames.specs.Confirmations.{confirms, confirmationIn}
 use Rattle.message_frames.specs.Frames.{letterIn}
-use Rattle.message_rules.specs.Rules.Again.{isOpen, isUnconfirmed, turned, slotTaken, slotAnswered, slotGone}
-use Rattle.message_rules.specs.Rules.Calls.{Both, Call, start, stop, tick, post, hear, ask, after, isDone, takes, turnsOff, Hearing, Asking, hearOf, askOf, blockAsked, frameHeard}
-use Rattle.message_rules.specs.Rules.Confirming.{isCyclicAnswer, speaksOf, confirmed as answered, afterFrame}
+use Rattle.message_rules.specs.Rules.Again.{isOpen, isUnconfirmed, turned, slotAnswered, slotGone}
+use Rattle.message_rules.specs.Rules.Calls.{Both, Call, start, stop, tick, post, hear, ask, after, isDone, takes, turnsOff, Hearing, Asking, hearOf}
+use Rattle.message_rules.specs.Rules.Confirming.{isCyclicAnswer, speaksOf, afterFrame}
 use Rattle.message_rules.specs.Rules.Cycle.{goes}
 use Rattle.message_rules.specs.Rules.Hearing as letters
 use Rattle.message_rules.specs.Outcomes as outcomes
-use Rattle.message_rules.specs.Rules.Posting.{Posting, waiting, postOf}
+use Rattle.message_rules.specs.Rules.Posting.{Posting, waiting}
 use Rattle.message.specs.declared.Slot.{Slot}
 use Rattle.message_rules.specs.Rules.State.{Messages, emptySlot, noMessages, begun, withSlot}
 use Rattle.message_rules.specs.Sending.Slots.{Ends, kept, same-message, is-unconfirmed, ticked-ends, answered-ends, then-taken}

@@ -1,7 +1,7 @@
 -- What can become of a slot while its message waits for its confirmation. Assumes nothing.
 use Rattle.laws.specs.Usual.{_≡_, refl, sym, ap, subst, _∙_, Bool, true, false, cond, _&&_, false≢true, ℕ, _<_, _≤_, min, _+_, eqb, leb}
 use borrow.Author.Tests.{leb-true, leb-false}
-use Rattle.laws.specs.Tests.{first, second}
+use Rattle.laws.specs.Tests.{second}
 use Rattle.message.specs.declared.Mail.{Mail}
 use Rattle.message.specs.declared.Mail.the-variants.{Nothing, Waiting, Unconfirmed, Confirmed, Sent, Failed}
 use Rattle.message_rules.specs.Rules.Again.{isUnconfirmed, resendsMost, slotWith, isDue, orFailed, whereUnconfirmed, slotTicked, slotTaken, slotAnswered}

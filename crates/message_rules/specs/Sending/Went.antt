@@ -1,5 +1,5 @@
 -- How often the message in the slot has gone, told from the calls alone; and that a message fails only after it went four times. Assumes nothing.
-use Rattle.laws.specs.Usual.{_≡_, refl, sym, ap, subst, _∙_, Bool, true, false, cond, not, _&&_, _||_, false≢true, List, [], _∷_, ℕ, _+_, _<_, _≤_, arith, length}
+use Rattle.laws.specs.Usual.{_≡_, refl, sym, ap, subst, _∙_, Bool, true, false, cond, _&&_, _||_, false≢true, List, [], _∷_, ℕ, _+_, _≤_, arith}
 use mathlib.Core.Logic.{_⊎_, inl, inr}
 use Rattle.laws.specs.Tests.{first, second}
 use Rattle.message.specs.Codes.{toAll}
