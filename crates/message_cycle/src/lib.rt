@@ -15,7 +15,7 @@ pub fn lets(cycle: Ticks, allowed: Cycle, went_last: bool) -> bool
     (ticks < most) & ((10 * ticks <= 9 * most) | !went_last)
 }
 
-// "from 1, and 1 after the largest": 0 is no number.
+// From 1, and 1 after the largest: 0 is no number.
 pub fn number_after(last: u32) -> u32
     ensures { λ r. ⌜ r ≡ numberAfter last ⌝ }
 {

@@ -66,7 +66,7 @@ statuses = (refl, refl)
 numbers : (numberAfter 0 ≡ 1) × (numberAfter 1 ≡ 2) × (numberAfter 0xfffffffe ≡ 0xffffffff) × (numberAfter 0xffffffff ≡ 1)
 numbers = (refl, refl, refl, refl)
 
--- a message to all is owed nothing: "None is owed (Table 19)"
+-- a message to all is owed nothing: Table 19 has no confirmation for it
 pub all-unowed : (messages : Messages) (judgement : Judged) (letter : Letter) → toAll (letter .message .destination) ≡ true
     → judged messages judgement letter .owed ≡ messages .owed
 all-unowed messages judgement letter all =

@@ -32,7 +32,7 @@ either : {s : List ℕ} (test : Bool) (one other : Carried) → Wrote s (take (o
 either true one other p q = p
 either false one other p q = q
 
--- "with 20 octets more", in front in the output
+-- with 20 octets more, in front in the output
 module _ (count : ℕ) (output : List ℕ) (long : length (take count output) ≡ count) (least : 64 ≤ count) where
   pub put-in : (confirmation : Confirmation) → take (count + confirmationLength) (carrying confirmation (take count output) ++ drop (count + confirmationLength) output)
       ≡ carrying confirmation (take count output)

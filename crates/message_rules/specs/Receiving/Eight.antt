@@ -1,4 +1,4 @@
--- "Up to eight confirmations owed", in every state that calls can leave. Assumes nothing.
+-- Up to eight confirmations are owed, in every state that calls can leave. Assumes nothing.
 use Rattle.laws.specs.Usual.{_≡_, sym, subst, Bool, true, false, cond, not, _&&_, List, [], _∷_, ℕ, _+_, _≤_, arith, length, leb}
 use borrow.Author.Tests.{ltb-false}
 use Rattle.message.specs.Codes.{toAll}

@@ -1,4 +1,4 @@
--- "Handed over" and "will be confirmed" go together: a message that is handed over is owed its confirmation from then until a token frame of ours carries it, or
+-- What is handed over will be confirmed: a message that is handed over is owed its confirmation from then until a token frame of ours carries it, or
 -- the station is turned off. Assumes nothing.
 use Rattle.laws.specs.Usual.{_≡_, refl, sym, ap, _∙_, Bool, true, false, cond, not, _&&_, false≢true, List, [], _∷_, _++_, ℕ, _+_, _≤_, arith, length, take, eqb, leb}
 use mathlib.Core.Logic.{_⊎_, inl, inr}

@@ -54,7 +54,7 @@ slotWith slot mail ticks takings asked = record {
 abbrev pub isDue : Slot → Bool
 isDue slot = slot .asked || (leb confirmationWait (slot .ticks) && leb takingsWait (slot .takings))
 
--- "After three resends", what would make a fourth due makes the message failed.
+-- After three resends, what would make a fourth due makes the message failed.
 abbrev pub orFailed : Slot → Slot
 orFailed slot =
     cond (isUnconfirmed (slot .mail) && (isDue slot && leb resendsMost (slot .resends)))
@@ -96,7 +96,7 @@ turned false messages = messages
 abbrev pub isToGo : Slot → Bool
 isToGo slot = isWaiting (slot .mail) || (isUnconfirmed (slot .mail) && isDue slot)
 
--- a message's number "is given when it first goes": the one after the last given, from 1, and 1 after the largest; one line for one to one and one for to
+-- a message's number is given when it first goes: the one after the last given, from 1, and 1 after the largest; one line for one to one and one for to
 -- all
 abbrev pub numberAfter : ℕ → ℕ
 numberAfter last = cond (leb 0xffffffff last) 1 (last + 1)
@@ -111,7 +111,7 @@ newNumber messages =
 abbrev pub numberGoing : Messages → ℕ
 numberGoing messages = cond (isWaiting (messages .slot .mail)) (newNumber messages) (messages .slot .number)
 
--- what becomes of a message that goes: to all it is sent, "never again"; one to one it waits for its confirmation, ticks and takings from 0
+-- what becomes of a message that goes: to all it is sent, never again; one to one it waits for its confirmation, ticks and takings from 0
 abbrev pub slotGone : Messages → Slot
 slotGone messages = record {
   mail = cond (toAll (messages .slot .message .destination)) Sent Unconfirmed;

@@ -1,4 +1,4 @@
--- All calls of a station with messages. "A call on both is the base's call on the ring part", and the message part looks at the ring part before and
+-- All calls of a station with messages. A call on both is the base's call on the ring part, and the message part looks at the ring part before and
 -- after. Two calls leave the ring part alone: handing in a message, and an asking that writes one.
 use Rattle.laws.specs.Usual.{Bool, true, false, cond, not, _&&_, List, [], _∷_, ℕ}
 use Rattle.frame.specs.declared.Refusal.the-variants as refusals
@@ -45,7 +45,7 @@ abbrev pub isDone : Switched → Bool
 isDone switched.Done = true
 isDone (switched.Refused refusal) = false
 
--- start, which also takes the allowed cycle and the version, and stop: "Stop .. forget all of it"
+-- start, which also takes the allowed cycle and the version, and stop, which forgets all of messages
 pub record Switching : Type 0 where
   pub both : Both
   pub answer : Switched
@@ -68,7 +68,7 @@ stopOf both = record {
   answer = starting.stopOf (both .ring) .answer;
 }
 
--- "A turn begins at a taking, as the panel defines it": whether a call of the base is one
+-- a turn begins at a taking, as the panel counts them: whether a call of the base is one
 abbrev pub takes : Station → base.Call → Bool
 takes station call = isTaking (stepOf station call)
 
@@ -96,7 +96,7 @@ pub record Hearing : Type 0 where
 abbrev pub turnsOff : Station → Station → Bool
 turnsOff before left = not (isOff (before .phase)) && isOff (left .phase)
 
--- a frame of the base. "In one frame the confirmation is read before the taking that the same frame brings."
+-- a frame of the base. Its confirmation is read before the taking that the same frame brings.
 abbrev pub frameHeard : Both → List ℕ → hearing.Hearing → Bool → Hearing
 frameHeard both octets after taking = record {
   both = record {
@@ -133,7 +133,7 @@ pub record Asking : Type 0 where
   pub turn : List ℕ
   pub output : List ℕ
 
--- a message goes: "The asking that writes a message changes nothing in the ring part", nor in the turn buffer
+-- a message goes: the asking changes nothing in the ring part, nor in the turn buffer
 abbrev pub letterAsked : Both → List ℕ → List ℕ → List ℕ → Asking
 letterAsked both turn output mail = record {
   both = record { ring = both .ring; messages = gone (both .messages) };
@@ -142,7 +142,7 @@ letterAsked both turn output mail = record {
   output = outputOf (letterGoing (both .ring .own .number) (both .messages)) mail output;
 }
 
--- "Our token frame .. carries the oldest owed confirmation": what the base wrote, with it in
+-- our token frame carries the oldest confirmation that is owed: what the base wrote, with it in
 abbrev pub carriedBy : Both → Asked → List ℕ → Carried
 carriedBy both (asked.Octets count) output =
     cond (isParticipating (both .ring .phase) && asking.isLast (both .ring))

@@ -25,7 +25,7 @@ abbrev pub isOwed : Confirmation → List Confirmation → Bool
 isOwed confirmation [] = false
 isOwed confirmation (other ∷ rest) = cond (sameConfirmation confirmation other) true (isOwed confirmation rest)
 
--- one more, behind the others; "the same one isn't owed twice"
+-- one more, behind the others; the same one is not owed twice
 abbrev pub owing : Confirmation → List Confirmation → List Confirmation
 owing confirmation owed = cond (isOwed confirmation owed) owed (owed ++ (confirmation ∷ []))
 
@@ -73,7 +73,7 @@ isCyclicAnswer heard.Done = false
 isCyclicAnswer (heard.Cyclic token) = true
 isCyclicAnswer (heard.Refused refusal) = false
 
--- a cyclic frame "that a participant hears and does not refuse", with the answer that it got
+-- a cyclic frame that a participant hears and does not refuse, with the answer that it got
 abbrev pub afterFrame : Station → Messages → List ℕ → Heard → Messages
 afterFrame station messages octets answer =
     cond (isParticipating (station .phase) && (isCyclicAnswer answer && confirms octets))

@@ -23,7 +23,7 @@ emptySlot = record {
   resends = 0;
 }
 
--- What we know of a source (9.3.3 e 2): the version of its numbers, and the last one-to-one and the last to-all number; 0 is "none yet".
+-- What we know of a source (9.3.3 e 2): the version of its numbers, and the last one-to-one and the last to-all number; 0 is none yet.
 pub record Known : Type 0 where
   pub version : ℕ
   pub oneToOne : ℕ
@@ -81,7 +81,7 @@ noMessages = record {
   sources = noSources;
 }
 
--- A start "begins with all of it empty". The version comes from the host, which has time or chance to make it from (9.3.3 e 1); 0 is "none yet" to those
+-- A start begins with all of it empty. The version comes from the host, which has time or chance to make it from (9.3.3 e 1); 0 is none yet to those
 -- who hear us, so it is taken as 1.
 abbrev pub begun : Allowance → Messages
 begun allowance = record {
@@ -125,7 +125,7 @@ withGone messages slot oneToOne toAll = record {
   sources = messages .sources;
 }
 
--- A turn begins: "this turn" is now the last, and nothing has gone in the new one.
+-- A turn begins: the one that was this turn is now the last, and nothing has gone in the new one.
 abbrev pub withTurn : Messages → Slot → Messages
 withTurn messages slot = record {
   allowed = messages .allowed;

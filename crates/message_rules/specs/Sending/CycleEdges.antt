@@ -10,7 +10,7 @@ use Rattle.station.specs.Rules.Asking.{dueIn}
 use Rattle.station.specs.Rules.State.{isParticipating}
 use Rattle.station.specs.declared.Station.{Station}
 
--- "With the cycle at most nine tenths of the allowed one, a message goes", unless both are 0;
+-- "With the cycle .. at most nine tenths of the allowed one .., a message goes", unless both are 0;
 pub at-most-nine-tenths : (cycle allowed : ℕ) (wentLast : Bool) → 10 * cycle ≤ 9 * allowed → 0 < allowed → cycleLets cycle allowed wentLast ≡ true
 at-most-nine-tenths cycle allowed wentLast few some = rw (lt-ltb cycle allowed (omega arith), le-leb (10 * cycle) (9 * allowed) few)
 

@@ -9,7 +9,7 @@ use Rattle.message_rules.specs.Rules.Confirming.{speaksOf}
 use Rattle.message_rules.specs.Rules.State.{Messages}
 use Rattle.message_rules.specs.Sending.Slots.{is-unconfirmed}
 
--- "It speaks of the unconfirmed message whose destination is the frame's source, with the same code and number, if R_NA is ours and R_VSEQ our version"
+-- it speaks of the unconfirmed message whose destination is the frame's source, with its code and number, where R_NA is ours and R_VSEQ our version
 pub record Speaks (own : ℕ) (messages : Messages) (source : ℕ) (confirmation : Confirmation) : Type 0 where
   pub unconfirmed : messages .slot .mail ≡ Unconfirmed
   pub destination : messages .slot .message .destination ≡ source
