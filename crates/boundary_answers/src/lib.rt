@@ -1,7 +1,7 @@
 // The answers as numbers, for C.
 use frame::Refusal;
 ghost use mathlib.Core.Path.{_≡_};
-ghost use Rattle.boundary_answers.specs.Numbers.{doneAnswer, refusedAnswer, frameAnswer};
+ghost use Rattle.boundary_answers.specs.Numbers.{offAnswer, doneAnswer, refusedAnswer, frameAnswer};
 
 // Where a frame comes from and goes to, and its code.
 #[repr(C)]
@@ -33,6 +33,19 @@ pub const NO_FRAME: Route = Route {
     source: 0,
     destination: 0,
 };
+
+pub fn off() -> Answer
+    ensures { λ r. ⌜ r ≡ offAnswer ⌝ }
+{
+    Answer {
+        word: 0,
+        refusal: 0,
+        token: 0,
+        outcome: 0,
+        frame: NO_FRAME,
+        octets: 0,
+    }
+}
 
 pub fn done() -> Answer
     ensures { λ r. ⌜ r ≡ doneAnswer ⌝ }

@@ -2,30 +2,11 @@
 use boundary_core::Core;
 use boundary_places::NUMBERS;
 use boundary_reading::phase_in;
+use low_parts::with_flag;
+use low_parts::with_octet;
+use low_parts::with_octets;
 ghost use Rattle.laws.specs.Usual.{_≡_, _≤_};
-ghost use Rattle.boundary_places.specs.Places.{coreIn, withOctet, withOctets, withFlag, withPhase, kept};
-
-fn with_octet(number: u32, low: u8) -> u32
-    ensures { λ r. ⌜ r ≡ withOctet number low ⌝ }
-{
-    number / 256 * 256 + low as u32
-}
-
-fn with_octets(number: u32, low: u16) -> u32
-    ensures { λ r. ⌜ r ≡ withOctets number low ⌝ }
-{
-    number / 65536 * 65536 + low as u32
-}
-
-fn with_flag(number: u32, low: bool) -> u32
-    ensures { λ r. ⌜ r ≡ withFlag number low ⌝ }
-{
-    if low {
-        number / 2 * 2 + 1
-    } else {
-        number / 2 * 2
-    }
-}
+ghost use Rattle.boundary_places.specs.Places.{coreIn, withPhase, kept};
 
 fn with_phase(number: u32, phase: u8) -> u32
     ensures { λ r. ⌜ r ≡ withPhase number phase ⌝ }

@@ -1,25 +1,13 @@
 // The answers of a tick and of a hearing as numbers, for C.
 use boundary_answers::Answer;
 use boundary_answers::done;
+use boundary_answers::off;
 use boundary_answers::refused;
 use boundary_cyclic::cyclic;
 use station::Heard;
 use station::Ticked;
 ghost use mathlib.Core.Path.{_≡_};
-ghost use Rattle.boundary_answers.specs.Numbers.{offAnswer, tickedAnswer, heardAnswer};
-
-fn off() -> Answer
-    ensures { λ r. ⌜ r ≡ offAnswer ⌝ }
-{
-    Answer {
-        word: 0,
-        refusal: 0,
-        token: 0,
-        outcome: 0,
-        frame: boundary_answers::NO_FRAME,
-        octets: 0,
-    }
-}
+ghost use Rattle.boundary_answers.specs.Numbers.{tickedAnswer, heardAnswer};
 
 pub fn ticked_answer(answer: Ticked) -> Answer
     ensures { λ r. ⌜ r ≡ tickedAnswer answer ⌝ }

@@ -9,7 +9,9 @@ use Rattle.station.specs.Types.{Members}
 use Rattle.station.specs.declared.Phase.{Phase}
 use Rattle.station.specs.declared.Phase.the-variants.{Off, Listening, Startup, Joining, Participating}
 use Rattle.station.specs.declared.Station.{Station}
-use Rattle.boundary_places.specs.Places.{octet, octets, flag, phaseIn, settingsIn, gatheringIn, panelIn, coreIn, withOctet, withOctets, withFlag, withPhase, kept}
+use Rattle.low_parts.specs.Parts.{octet, octets, flag, withOctet, withOctets, withFlag}
+use Rattle.low_parts.specs.Laws.{octet-back, octets-back, flag-back, octet-same, octets-same, flag-same, elements, all-elements}
+use Rattle.boundary_places.specs.Places.{phaseIn, settingsIn, gatheringIn, panelIn, coreIn, withPhase, kept}
 
 -- each field is as wide as C has it, and the phase is one of the five
 pub record Fits (core : Core) : Type 0 where
@@ -26,31 +28,6 @@ pub record Fits (core : Core) : Type 0 where
   pub source : core .gathering .source < 256
   pub blocks : core .gathering .blocks < 256
   pub takings : core .panel .takings < 256
-
--- what is put into the low part of a number is what stands there
-octet-back : (number low : ℕ) → low < 256 → octet (withOctet number low) ≡ low
-octet-back number low small = omega arith
-
-octets-back : (number low : ℕ) → low < 65536 → octets (withOctets number low) ≡ low
-octets-back number low small = omega arith
-
-flag-back : (number : ℕ) (low : Bool) → flag (withFlag number low) ≡ low
-flag-back number true = eq-eqb (withFlag number true % 2) 1 (omega arith)
-flag-back number false = ne-eqb (withFlag number false % 2) 1 (λ e. omega arith)
-
--- what stands there already changes nothing
-octet-same : (number : ℕ) → withOctet number (octet number) ≡ number
-octet-same number = omega arith
-
-octets-same : (number : ℕ) → withOctets number (octets number) ≡ number
-octets-same number = omega arith
-
-flag-same : (number : ℕ) → withFlag number (flag number) ≡ number
-flag-same number = by (flag number) refl
-  where
-    by : (low : Bool) → flag number ≡ low → withFlag number low ≡ number
-    by true e = let odd : number % 2 ≡ 1 = eqb-true (number % 2) 1 e in omega arith
-    by false e = let even : number % 2 ≡ 1 → ⊥ = eqb-false (number % 2) 1 e in omega arith
 
 phase-in-small : (number : ℕ) → phaseIn number ≤ 4
 phase-in-small number = by (leb (octet number) 4) refl
@@ -89,20 +66,6 @@ kept-core numbers core fits = rw (
   octet-back (getD numbers 14 0) (core .gathering .blocks) (fits .blocks),
   octet-back (getD numbers 15 0) (core .panel .takings) (fits .takings),
 )
-
--- the elements from a place on, so many of them
-abbrev elements : (ℕ → ℕ) → ℕ → ℕ → List ℕ
-elements element place zero = []
-elements element place (suc count) = element place ∷ elements element (suc place) count
-
-later : (element : ℕ → ℕ) (place count : ℕ) → elements element (suc place) count ≡ elements (λ i. element (suc i)) place count
-later element place zero = refl
-later element place (suc count) = ap (λ (rest : List ℕ). element (suc place) ∷ rest) (later element (suc place) count)
-
-all-elements : (numbers : List ℕ) → elements (λ i. getD numbers i 0) 0 (length numbers) ≡ numbers
-all-elements [] = refl
-all-elements (number ∷ numbers) =
-    ap (λ (rest : List ℕ). number ∷ rest) (later (λ i. getD (number ∷ numbers) i 0) 0 (length numbers) ∙ all-elements numbers)
 
 -- A core that the numbers hold already changes none of them.
 pub kept-same : (numbers : List ℕ) → length numbers ≡ 18 → kept numbers (coreIn numbers) ≡ numbers

@@ -1,21 +1,12 @@
 -- The core as C keeps it: eighteen numbers of 32 bits in the order of the header's `flnet_core`, changed in place. Of a number that stands for
 -- an octet, two octets or a flag only its low part counts, and what stands above that part is left as it is.
-use Rattle.laws.specs.Usual.{_≡_, Bool, cond, List, [], _∷_, ℕ, _+_, _*_, _/_, _%_, getD, eqb, leb}
+use Rattle.laws.specs.Usual.{cond, List, [], _∷_, ℕ, getD, eqb, leb}
 use Rattle.area.specs.declared.Areas.{Areas}
 use Rattle.boundary_core.specs.declared.Core.{Core}
+use Rattle.low_parts.specs.Parts.{octet, octets, flag, withOctet, withOctets, withFlag}
 use Rattle.panel.specs.declared.Panel.{Panel}
 use Rattle.station.specs.declared.Gathering.{Gathering}
 use Rattle.station.specs.declared.Settings.{Settings}
-
--- the low part of a number
-abbrev pub octet : ℕ → ℕ
-octet number = number % 256
-
-abbrev pub octets : ℕ → ℕ
-octets number = number % 65536
-
-abbrev pub flag : ℕ → Bool
-flag number = eqb (number % 2) 1
 
 -- "Any other number counts as off": the phases are 0 to 4.
 abbrev pub phaseIn : ℕ → ℕ
@@ -55,16 +46,6 @@ coreIn numbers = record {
   gathering = gatheringIn numbers;
   panel = panelIn numbers;
 }
-
--- A number with another low part.
-abbrev pub withOctet : ℕ → ℕ → ℕ
-withOctet number low = number / 256 * 256 + low
-
-abbrev pub withOctets : ℕ → ℕ → ℕ
-withOctets number low = number / 65536 * 65536 + low
-
-abbrev pub withFlag : ℕ → Bool → ℕ
-withFlag number low = number / 2 * 2 + cond low 1 0
 
 -- A number that stands for the phase already stays.
 abbrev pub withPhase : ℕ → ℕ → ℕ

@@ -3,31 +3,16 @@ use area::Areas;
 use area::Part;
 use boundary_core::Core;
 use boundary_places::NUMBERS;
+use low_parts::flag_of;
+use low_parts::octet_of;
+use low_parts::octets_of;
 use panel::Panel;
 use station::Gathering;
 use station::Settings;
 use units::Milliseconds;
 use units::Ticks;
 ghost use Rattle.laws.specs.Usual.{_≡_, length};
-ghost use Rattle.boundary_places.specs.Places.{octet, octets, flag, phaseIn, settingsIn, gatheringIn, panelIn, coreIn};
-
-fn octet_of(number: u32) -> u8
-    ensures { λ r. ⌜ r ≡ octet number ⌝ }
-{
-    (number % 256) as u8
-}
-
-fn octets_of(number: u32) -> u16
-    ensures { λ r. ⌜ r ≡ octets number ⌝ }
-{
-    (number % 65536) as u16
-}
-
-fn flag_of(number: u32) -> bool
-    ensures { λ r. ⌜ r ≡ flag number ⌝ }
-{
-    number % 2 == 1
-}
+ghost use Rattle.boundary_places.specs.Places.{phaseIn, settingsIn, gatheringIn, panelIn, coreIn};
 
 pub fn phase_in(number: u32) -> u8
     ensures { λ r. ⌜ r ≡ phaseIn number ⌝ }

@@ -21,12 +21,13 @@ fn is_marked(control: u8) -> bool
     control / RPL % 2 == 1
 }
 
-// Whether a frame, of which at least the header was read, has a confirmation. Its data are the last BSIZE octets: where they begin before
-// octet 84, nothing behind the header is read.
+// Whether a frame has a confirmation. Its data are the last BSIZE octets: where they begin before octet 84, nothing behind the header is read.
 pub fn confirms(octets: &[u8]) -> bool
-    requires { ⌜ 64 ≤ length (now octets) ⌝ }
     ensures { λ r. ⌜ r ≡ confirms (now (octets .entry)) ⌝ }
 {
+    if octets.len() < CONFIRMATION_END {
+        return false;
+    }
     if !is_marked(octets[position::M_CTL]) {
         return false;
     }

@@ -1,6 +1,7 @@
 -- A message of station 1 that nobody confirms: it goes four times, and fails in the call that would make a fourth resend due. Station 2 passes the token and
 -- no more. The watch time is the longest, so that 1000 ticks end no watch. Assumes nothing.
-use Rattle.laws.specs.Usual.{_≡_, refl, ap, subst, _∙_, Bool, true, false, cond, List, [], _∷_, _++_, ℕ, _+_, replicate, take, leb}
+use Rattle.laws.specs.Usual.{_≡_, refl, ap, subst, _∙_, Bool, true, false, cond, List, [], _∷_, _++_, ℕ, _+_, min, _<_, arith, replicate, take, leb}
+use borrow.Author.Tests.{leb-false}
 use Rattle.frame_reading.specs.Reading.{fieldsOf}
 use Rattle.frame_writing.specs.Writing.{headerOf, frontOf, backOf, fixedFor}
 use Rattle.message.specs.declared.Mail.the-variants.{Unconfirmed, Failed}
@@ -86,8 +87,8 @@ third-taking resends few =
     ap (λ (t : Bool). thirdTaken (cond t (slotOf Failed 1000 3 resends) (slotOf Unconfirmed 1000 3 resends))) few
 
 -- The next asking writes the message again, with the same number: the same octets.
-pub goes-again : (resends : ℕ) → after (due resends) asked ≡ wentAgain (resends + 1) 0
-goes-again resends = refl
+pub goes-again : (resends : ℕ) → leb 3 resends ≡ false → after (due resends) asked ≡ wentAgain (resends + 1) 0
+goes-again resends few = let less : resends < 3 = leb-false 3 resends few in ap (λ (again : ℕ). wentAgain again 0) (omega arith)
 
 pub same-octets : (resends : ℕ) → take 66 (askOf (due resends) large large output mail .output) ≡ letter
 unfolding letters.headerOf
@@ -132,7 +133,7 @@ pub sent-again : (resends gap : ℕ) → Passes resends gap → leb 3 resends �
 sent-again resends gap passes few =
     after-append after (wentAgain resends gap) waits (asked ∷ [])
     ∙ ap (λ (b : Both). after b asked) (waited resends gap passes ∙ third-taking resends few)
-    ∙ goes-again resends
+    ∙ goes-again resends few
 
 pub four-goings : afterAll after (oneWent long) (again ++ (again ++ (again ++ waits))) ≡ failed
 four-goings =
@@ -161,7 +162,7 @@ pub again-reached : (resends gap : ℕ) → Passes resends gap → leb 3 resends
 again-reached resends gap passes few reached =
     reached-by asked refl
     (subst Reachable (waited resends gap passes ∙ third-taking resends few) (reached-on waits reached waits-typed))
-    (goes-again resends)
+    (goes-again resends few)
 
 pub failed-reached : Reachable failed
 failed-reached =

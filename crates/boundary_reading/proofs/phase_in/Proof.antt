@@ -1,6 +1,6 @@
 -- `boundary_reading::phase_in` meets its contract.
 use Rattle.laws.specs.Usual.{Bool, ℕ, sym, ap, _∙_, cond, leb}
-use Rattle.boundary_places.specs.Places.{octet}
+use Rattle.low_parts.specs.Parts.{octet}
 use borrow.Author.Tests.{le-leb, lt-leb}
 use Rattle.boundary_reading.proofs.phase_in.Statement.{statement}
 use Rattle.boundary_reading.proofs.phase_in.Tie as tie

@@ -111,7 +111,8 @@ newNumber messages =
 abbrev pub numberGoing : Messages → ℕ
 numberGoing messages = cond (isWaiting (messages .slot .mail)) (newNumber messages) (messages .slot .number)
 
--- what becomes of a message that goes: to all it is sent, never again; one to one it waits for its confirmation, ticks and takings from 0
+-- what becomes of a message that goes: to all it is sent, never again; one to one it waits for its confirmation, ticks and takings from 0. How often it was
+-- sent again is counted up to three, as ticks and takings are up to their waits.
 abbrev pub slotGone : Messages → Slot
 slotGone messages = record {
   mail = cond (toAll (messages .slot .message .destination)) Sent Unconfirmed;
@@ -121,7 +122,7 @@ slotGone messages = record {
   ticks = 0;
   takings = 0;
   asked = false;
-  resends = cond (isWaiting (messages .slot .mail)) 0 (messages .slot .resends + 1);
+  resends = cond (isWaiting (messages .slot .mail)) 0 (min resendsMost (messages .slot .resends + 1));
 }
 
 -- a number is given at the first going alone

@@ -1,5 +1,5 @@
 -- How often the message in the slot has gone, told from the calls alone; and that a message fails only after it went four times. Assumes nothing.
-use Rattle.laws.specs.Usual.{_≡_, refl, sym, ap, subst, _∙_, Bool, true, false, cond, _&&_, _||_, false≢true, List, [], _∷_, ℕ, _+_, _≤_, arith}
+use Rattle.laws.specs.Usual.{_≡_, refl, sym, ap, subst, _∙_, Bool, true, false, cond, _&&_, _||_, false≢true, List, [], _∷_, ℕ, _+_, min, _≤_, arith}
 use mathlib.Core.Logic.{_⊎_, inl, inr}
 use Rattle.laws.specs.Tests.{first, second}
 use Rattle.message.specs.Codes.{toAll}
@@ -107,15 +107,15 @@ module _ (messages : Messages) (times : ℕ) (told : Told (messages .slot) times
           → (times + 1 ≡ slotGone messages .resends + 1) × (slotGone messages .resends ≤ 3)
       by (inl e) =
           let none : times ≡ 0 = subst (λ (k : Mail). Counts k (messages .slot .resends) times) e (told .counts) in
-          let again : slotGone messages .resends ≡ 0 = ap (λ (k : Mail). cond (isWaiting k) 0 (messages .slot .resends + 1)) e in
+          let again : slotGone messages .resends ≡ 0 = ap (λ (k : Mail). cond (isWaiting k) 0 (min 3 (messages .slot .resends + 1))) e in
           (omega arith, omega arith)
       by (inr (e, due)) =
           let was : (times ≡ messages .slot .resends + 1) × (messages .slot .resends ≤ 3) =
           subst (λ (k : Mail). Counts k (messages .slot .resends) times) e (told .counts) in
           let one = was .0 in
           let few = told .sure e due in
-          let again : slotGone messages .resends ≡ messages .slot .resends + 1 =
-          ap (λ (k : Mail). cond (isWaiting k) 0 (messages .slot .resends + 1)) e in
+          let again : slotGone messages .resends ≡ min 3 (messages .slot .resends + 1) =
+          ap (λ (k : Mail). cond (isWaiting k) 0 (min 3 (messages .slot .resends + 1))) e in
           (omega arith, omega arith)
 
   -- to all it goes only once

@@ -13,7 +13,7 @@ use Rattle.station.specs.Panel.Moves.{Moves, enter, leave, stays, begin}
 use Rattle.station.specs.Rules.Asking.{Asking, isLast, nextStation, blockSent, dueFields}
 
 -- the frame has code 65000 where the block is the last
-last-code : (block blocks : ℕ) → block < blocks → isToken (cond (eqb (block + 1) blocks) Token Cyclic) ≡ leb blocks (block + 1)
+pub last-code : (block blocks : ℕ) → block < blocks → isToken (cond (eqb (block + 1) blocks) Token Cyclic) ≡ leb blocks (block + 1)
 last-code block blocks room = by (leb blocks (block + 1)) refl (eqb (block + 1) blocks) refl
   where
     by : (last : Bool) → leb blocks (block + 1) ≡ last → (same : Bool) → eqb (block + 1) blocks ≡ same →

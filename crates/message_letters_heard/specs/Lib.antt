@@ -1,0 +1,5 @@
+-- Definitions.
+pub mod Heard
+-- Theorems.
+pub mod Laws
+pub mod Told
