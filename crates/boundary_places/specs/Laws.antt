@@ -1,7 +1,7 @@
 -- What is put into the numbers is what they hold then, and a core that they hold already changes none of them. Assumes nothing.
-use Rattle.laws.specs.Usual.{_≡_, refl, sym, ap, ap₂, _∙_, Bool, true, false, cond, List, [], _∷_, ℕ, suc, _+_, _*_, _/_, _%_, _<_, _≤_, arith, length, getD, eqb, leb}
+use Rattle.laws.specs.Usual.{_≡_, refl, sym, ap, ap₂, _∙_, Bool, true, false, cond, List, _∷_, ℕ, suc, _<_, _≤_, arith, length, getD, eqb, leb}
 use Prim.Native.Nat.{zero}
-use borrow.Author.Tests.{eq-eqb, ne-eqb, le-leb, eqb-true, eqb-false, leb-true}
+use borrow.Author.Tests.{eq-eqb, le-leb, eqb-true, leb-true}
 use Rattle.boundary_core.specs.Crossing.{phaseOf, stationOf, coreOf}
 use Rattle.boundary_core.specs.declared.Core.{Core}
 use Rattle.station.specs.Rules.Answers.{phaseNumber}
@@ -9,9 +9,9 @@ use Rattle.station.specs.Types.{Members}
 use Rattle.station.specs.declared.Phase.{Phase}
 use Rattle.station.specs.declared.Phase.the-variants.{Off, Listening, Startup, Joining, Participating}
 use Rattle.station.specs.declared.Station.{Station}
-use Rattle.low_parts.specs.Parts.{octet, octets, flag, withOctet, withOctets, withFlag}
+use Rattle.low_parts.specs.Parts.{octet, withOctet}
 use Rattle.low_parts.specs.Laws.{octet-back, octets-back, flag-back, octet-same, octets-same, flag-same, elements, all-elements}
-use Rattle.boundary_places.specs.Places.{phaseIn, settingsIn, gatheringIn, panelIn, coreIn, withPhase, kept}
+use Rattle.boundary_places.specs.Places.{phaseIn, coreIn, withPhase, kept}
 
 -- each field is as wide as C has it, and the phase is one of the five
 pub record Fits (core : Core) : Type 0 where

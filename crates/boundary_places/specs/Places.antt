@@ -1,7 +1,6 @@
 -- The core as C keeps it: eighteen numbers of 32 bits in the order of the header's `flnet_core`, changed in place. Of a number that stands for
 -- an octet, two octets or a flag only its low part counts, and what stands above that part is left as it is.
 use Rattle.laws.specs.Usual.{cond, List, [], _∷_, ℕ, getD, eqb, leb}
-use Rattle.area.specs.declared.Areas.{Areas}
 use Rattle.boundary_core.specs.declared.Core.{Core}
 use Rattle.low_parts.specs.Parts.{octet, octets, flag, withOctet, withOctets, withFlag}
 use Rattle.panel.specs.declared.Panel.{Panel}

@@ -1,5 +1,5 @@
 -- What is put into the low part of a number is what stands there, and what stands there already changes nothing. Assumes nothing.
-use Rattle.laws.specs.Usual.{_≡_, refl, ap, _∙_, Bool, true, false, List, [], _∷_, ℕ, suc, _+_, _*_, _/_, _%_, _<_, arith, length, getD}
+use Rattle.laws.specs.Usual.{_≡_, refl, ap, _∙_, Bool, true, false, List, [], _∷_, ℕ, suc, _%_, _<_, arith, length, getD}
 use Prim.Native.Nat.{zero}
 use borrow.Author.Tests.{eq-eqb, ne-eqb, eqb-true, eqb-false}
 use Rattle.low_parts.specs.Parts.{octet, octets, flag, withOctet, withOctets, withFlag}

@@ -1,6 +1,5 @@
 -- The message part as it begins: an outgoing side, nothing owed, and no source known.
-use Rattle.laws.specs.Usual.{_≡_, refl, sym, ap, _∙_, Bool, true, false, cond, List, [], ℕ, length, replicate}
-use Rattle.message.specs.declared.Confirmation.{Confirmation}
+use Rattle.laws.specs.Usual.{_≡_, sym, Bool, cond, List, [], ℕ, length, replicate}
 use Rattle.message_owed.specs.Laws.{owed-same}
 use Rattle.message_places.specs.Laws.{outgoing-same}
 use Rattle.message_places.specs.Outgoing.{outgoingOf, messagesOf}

@@ -1,6 +1,6 @@
 -- What a frame of the base does to the message part: its confirmation, and then the taking that it brings; or all is forgotten, where it turned us off.
 -- Assumes nothing.
-use Rattle.laws.specs.Usual.{_≡_, refl, sym, ap, _∙_, Bool, true, false, cond, not, _&&_, List, ℕ, _-_, _≤_, arith, length, eqb, leb}
+use Rattle.laws.specs.Usual.{_≡_, refl, ap, _∙_, Bool, true, false, cond, _&&_, List, ℕ, _-_, _≤_, arith, length, eqb, leb}
 use borrow.Author.Tests.{leb-true}
 use Rattle.boundary_core.specs.Crossing.{phaseOf, coreOf, station-kept}
 use Rattle.boundary_core.specs.declared.Core.{Core}
@@ -12,11 +12,11 @@ use Rattle.message_frames.specs.Confirmations.{isSet, confirms, confirmationIn}
 use Rattle.message_frames.specs.Places.{M-CTL, RPL, confirmationEnd}
 use Rattle.message_rules.specs.Rules.Again.{turned}
 use Rattle.message_rules.specs.Rules.Calls.{frameHeard, takes, turnsOff}
-use Rattle.message_rules.specs.Rules.Confirming.{confirmed, isCyclicAnswer, afterFrame}
+use Rattle.message_rules.specs.Rules.Confirming.{confirmed, isCyclicAnswer}
 use Rattle.message_rules.specs.Rules.State.{Messages, noMessages}
 use Rattle.station.specs.Rules.Calls as base
 use Rattle.station.specs.Rules.Hearing.{hearOf}
-use Rattle.station.specs.Rules.State.{isOff, isParticipating}
+use Rattle.station.specs.Rules.State.{isParticipating}
 use Rattle.station.specs.declared.Heard.{Heard}
 use Rattle.station.specs.declared.Heard.the-variants as heard
 use Rattle.station.specs.declared.Station.{Station}

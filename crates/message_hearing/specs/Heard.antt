@@ -1,25 +1,19 @@
 -- Hearing by a station with messages: a message, or a frame of the base. Assumes nothing.
-use Rattle.laws.specs.Usual.{_≡_, refl, ap, Bool, true, false, _&&_, List, ℕ, _≤_, length, leb}
+use Rattle.laws.specs.Usual.{_≡_, ap, true, false, List, ℕ, _≤_, length, leb}
 use borrow.Author.Tests.{leb-true}
-use Rattle.boundary_answers.specs.Numbers.{heardAnswer, noFrame}
-use Rattle.boundary_answers.specs.declared.Answer.{Answer}
-use Rattle.boundary_answers.specs.declared.Route.{Route}
-use Rattle.boundary_told.specs.Told.{routeRead, withFrame}
-use Rattle.frame_reading.specs.Reading.{whole, marked, long, readOf}
+use Rattle.boundary_told.specs.Told.{routeRead}
+use Rattle.frame_reading.specs.Reading.{whole}
 use Rattle.laws.specs.Tests.{first, second}
 use Rattle.message.specs.declared.Received.{Received}
-use Rattle.message.specs.declared.Received.the-variants as received
 use Rattle.message_answers.specs.Numbers.{receivedTold}
-use Rattle.message_answers.specs.declared.Reception.{Reception}
+use Rattle.message_receiving.specs.Laws.{answer-told}
 use Rattle.message_receiving.specs.Receiving.{receivedAnswer}
 use Rattle.message_rules.specs.Ring.Buffers.{letter-unread}
 use Rattle.message_rules.specs.Rules.Calls.{Hearing, hearOf, letterHeard, frameHeard, takes}
 use Rattle.message_rules.specs.Rules.Hearing.{isLetter, messageHeard}
-use Rattle.message_rules.specs.Rules.State.{Messages, noMessage}
+use Rattle.message_rules.specs.Rules.State.{Messages}
 use Rattle.station.specs.Rules.Calls as base
 use Rattle.station.specs.Rules.Hearing as ring
-use Rattle.station.specs.declared.Heard.{Heard}
-use Rattle.station.specs.declared.Heard.the-variants as heard
 use Rattle.station.specs.declared.Station.{Station}
 
 -- of a station and its message part
@@ -45,11 +39,4 @@ with-header octets memory assembly is =
 -- no route is told of a message that is not handed over
 pub answered : (octets memory assembly : List ℕ) → isLetter octets memory assembly ≡ true → (answer : Received)
     → receivedAnswer answer ≡ receivedTold octets answer
-answered octets memory assembly is (received.Message delivery) = refl
-answered octets memory assembly is (received.Told answer) = rw (letter-unread octets memory assembly is) (alone answer)
-  where
-    alone : (answer : Heard) → receivedAnswer (received.Told answer) ≡ record { answer = withFrame (heardAnswer answer) noFrame; message = noMessage }
-    alone heard.Off = refl
-    alone heard.Done = refl
-    alone (heard.Cyclic token) = refl
-    alone (heard.Refused refusal) = refl
+answered octets memory assembly is answer = answer-told octets answer (ap routeRead (letter-unread octets memory assembly is))

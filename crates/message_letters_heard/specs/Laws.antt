@@ -1,5 +1,5 @@
 -- What the code does with a message that was heard is what the rules say. Assumes nothing.
-use Rattle.laws.specs.Usual.{_≡_, refl, sym, ap, ap₂, _∙_, Bool, true, false, cond, List, [], ℕ, replicate}
+use Rattle.laws.specs.Usual.{_≡_, refl, sym, ap, ap₂, _∙_, Bool, true, false, cond, List, ℕ}
 use Rattle.boundary_core.specs.Crossing.{stationOf, coreOf}
 use Rattle.boundary_core.specs.declared.Core.{Core}
 use Rattle.boundary_places.specs.Places.{coreIn, kept}
@@ -19,7 +19,7 @@ use Rattle.message_places.specs.declared.Outgoing.{Outgoing}
 use Rattle.message_receiving.specs.Laws.{taken-by}
 use Rattle.message_receiving.specs.Receiving.{takenBy, heardAs, receivedAnswer}
 use Rattle.message_rules.specs.Rules.Hearing.{Hearing, letterHeard}
-use Rattle.message_rules.specs.Rules.State.{Messages, noMessages, Sources}
+use Rattle.message_rules.specs.Rules.State.{Messages, Sources}
 use Rattle.message_sources.specs.Sources.{sourcesIn}
 use Rattle.station.specs.declared.Station.{Station}
 use Rattle.message_letters_heard.specs.Heard.{deliveredBy}
@@ -57,15 +57,6 @@ module _ (core : Core) (known : Bool) (given : ℕ) (owed : List Confirmation) (
       ≡ record { owed = owed; sources = sources; answer = received.Told (passedBy core known given letter) }
   unfolding deliveredBy
   passed-by e = rw e
-
--- nothing left of messages
-pub forgotten : (outgoing : Outgoing) (owed : List Confirmation) (versions oneToOne toAll : List ℕ) → outgoing ≡ outgoingOf noMessages → owed ≡ []
-    → (versions ≡ replicate 256 0) × ((oneToOne ≡ replicate 256 0) × (toAll ≡ replicate 256 0))
-    → messagesOf outgoing owed (sourcesIn versions oneToOne toAll) ≡ noMessages
-forgotten outgoing owed versions oneToOne toAll is none unknown =
-    ap₂ (λ (o : Outgoing) (w : List Confirmation). messagesOf o w (sourcesIn versions oneToOne toAll)) is none
-    ∙ ap₂ (λ (v o : List ℕ). messagesOf (outgoingOf noMessages) [] (sourcesIn v o toAll)) (unknown .0) (unknown .1 .0)
-    ∙ ap (λ (t : List ℕ). messagesOf (outgoingOf noMessages) [] (sourcesIn (replicate 256 0) (replicate 256 0) t)) (unknown .1 .1)
 
 -- what three arrays hold afterwards
 pub known-after : (sources : Sources) (versions oneToOne toAll : List ℕ)

@@ -2,4 +2,3 @@
 pub mod Heard
 -- Theorems.
 pub mod Laws
-pub mod Told

@@ -72,9 +72,8 @@ fn turn_off(
     ensures { λ _. ⌜ now (owed .exit) ≡ keptOwed (now (owed .entry)) [] ⌝ }
 {
     boundary_switching::stop(core, listed, areas, watch, misses);
-    message_kept::keep(outgoing, message_going::nothing());
-    message_owed::forget(owed);
-    message_sources::forget(versions, one_to_one, to_all);
+    let nothing = message_going::nothing();
+    message_beginning::begin_where(true, nothing, outgoing, owed, versions, one_to_one, to_all);
 }
 
 // A proof is told here how many they are.

@@ -1,8 +1,8 @@
 -- What is put into the numbers is what they hold then, and an outgoing side that they hold already changes none of them. Assumes nothing.
-use Rattle.laws.specs.Usual.{_≡_, refl, sym, ap, ap₂, _∙_, Bool, true, false, cond, List, [], _∷_, ℕ, suc, _<_, _≤_, arith, length, getD, eqb, leb}
+use Rattle.laws.specs.Usual.{_≡_, refl, sym, ap, ap₂, _∙_, Bool, true, false, cond, List, _∷_, ℕ, suc, _<_, _≤_, arith, length, getD, eqb, leb}
 use Prim.Native.Nat.{zero}
 use borrow.Author.Tests.{eq-eqb, le-leb, eqb-true, leb-true}
-use Rattle.low_parts.specs.Parts.{octet, octets, flag, withOctet}
+use Rattle.low_parts.specs.Parts.{octet, octets, withOctet}
 use Rattle.low_parts.specs.Laws.{octet-back, octets-back, flag-back, octet-same, octets-same, flag-same, elements, all-elements}
 use Rattle.message.specs.Words.{mailNumber}
 use Rattle.message.specs.declared.Mail.{Mail}

@@ -1,5 +1,5 @@
 -- Handing in a message, by the flags of the list: each of its outcomes, of a station whose list is in arrays. Assumes nothing.
-use Rattle.laws.specs.Usual.{_≡_, refl, sym, ap, _∙_, Bool, true, false, cond, not, _&&_, _||_, List, ℕ, _<_, length, getD, leb}
+use Rattle.laws.specs.Usual.{_≡_, refl, sym, ap, _∙_, Bool, true, false, _&&_, _||_, List, ℕ, _<_, length, getD, leb}
 use Rattle.boundary_answers.specs.declared.Answer.{Answer}
 use Rattle.boundary_core.specs.Crossing.{stationIn}
 use Rattle.boundary_core.specs.declared.Core.{Core}

@@ -1,12 +1,11 @@
 -- A taking, told by the ring part before and after a call: whether we held the token before it and hold it after it, and of an asking whether it wrote the
 -- last block of our turn. Assumes nothing.
-use Rattle.laws.specs.Usual.{_≡_, refl, sym, ap, _∙_, Bool, true, false, false≢true, cond, not, _&&_, _||_, List, ℕ, _+_, _<_, arith, eqb, leb}
+use Rattle.laws.specs.Usual.{_≡_, refl, sym, ap, _∙_, Bool, true, false, false≢true, cond, not, _&&_, _||_, List, ℕ, _+_, _<_, arith, eqb}
 use borrow.Author.Tests.{ltb-true, ne-eqb}
 use Rattle.area.specs.Areas.{inRange}
 use Rattle.block.specs.Blocks.{blocksOf}
 use Rattle.boundary_core.specs.Crossing.{stationOf, coreOf, station-kept}
 use Rattle.boundary_core.specs.declared.Core.{Core}
-use Rattle.frame.specs.Codes.{isToken}
 use Rattle.laws.specs.Tests.{second}
 use Rattle.message_rules.specs.Rules.Calls.{takes}
 use Rattle.station.specs.Outcomes.AskCases.{AskCases, refuses, sends, triggers, requests, begins, passes, ask-cases}

@@ -1,6 +1,6 @@
 -- What is put into the numbers of the outgoing side is what a rule makes of it, whatever is owed and known; and numbers left alone, where the rule changes
 -- nothing. Assumes nothing.
-use Rattle.laws.specs.Usual.{_≡_, refl, sym, ap, _∙_, Bool, true, false, cond, List, ℕ, _+_, min, length}
+use Rattle.laws.specs.Usual.{_≡_, refl, sym, ap, _∙_, Bool, false, cond, List, ℕ, _+_, min, length}
 use Rattle.message.specs.declared.Confirmation.{Confirmation}
 use Rattle.message.specs.declared.Mail.the-variants.{Unconfirmed}
 use Rattle.message.specs.declared.Slot.{Slot}

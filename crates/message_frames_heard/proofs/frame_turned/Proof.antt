@@ -1,5 +1,5 @@
 -- `message_frames_heard::frame_turned` meets its contract.
-use Rattle.laws.specs.Usual.{_≡_, sym, ap, ap₂, _∙_, Bool, true, false, cond, _&&_, ℕ, arith, needs}
+use Rattle.laws.specs.Usual.{_≡_, sym, ap, _∙_, Bool, true, false, cond, _&&_, arith, needs}
 use denote.Ref.{now}
 use Rattle.frame.specs.Octets.{octetAt}
 use Rattle.frame.specs.Positions.{SNA}

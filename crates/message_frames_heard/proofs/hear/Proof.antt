@@ -1,5 +1,5 @@
 -- `message_frames_heard::hear` meets its contract.
-use Rattle.laws.specs.Usual.{_≡_, sym, ap, ap₂, _∙_, Bool, true, false, not, _&&_, List, ℕ, eqb, needs}
+use Rattle.laws.specs.Usual.{_≡_, sym, ap, ap₂, _∙_, Bool, true, false, not, _&&_, ℕ, eqb, needs}
 use denote.Ref.{now}
 use Rattle.boundary_answers.specs.declared.Answer.{Answer}
 use Rattle.boundary_core.specs.Crossing.{phaseOf, stationIn}
@@ -8,16 +8,16 @@ use Rattle.boundary_places.specs.Places.{coreIn}
 use Rattle.boundary_refused.specs.Taken.{participating-in}
 use Rattle.message_beginning.specs.Begun.{begunWhere}
 use Rattle.message_owed.specs.Laws.{owed-same}
-use Rattle.message_places.specs.Outgoing.{outgoingOf, messagesOf}
+use Rattle.message_places.specs.Outgoing.{outgoingOf}
 use Rattle.message_places.specs.Owed.{owedIn, keptOwed}
-use Rattle.message_places.specs.Places.{outgoingIn, keptOutgoing, messagesLent}
+use Rattle.message_places.specs.Places.{keptOutgoing, messagesLent}
 use Rattle.message_places.specs.declared.Outgoing.{Outgoing}
 use Rattle.message_rules.specs.Rules.Again.{turned}
 use Rattle.message_rules.specs.Rules.Calls.{turnsOff}
-use Rattle.message_rules.specs.Rules.State.{Messages, noMessages}
+use Rattle.message_rules.specs.Rules.State.{Messages}
 use Rattle.message_taking.specs.Taking.{taken-by, held-after}
 use Rattle.station.specs.Rules.Hearing.{hearOf}
-use Rattle.station.specs.Rules.State.{isOff, isParticipating}
+use Rattle.station.specs.Rules.State.{isOff}
 use Rattle.station.specs.declared.Phase.{Phase}
 use Rattle.message_frames_heard.specs.Heard.{messagesHeard, readIn, cyclic-word, phase-after, forgotten, still-on}
 use Rattle.message_frames_heard.proofs.hear.Statement.{statement}

@@ -1,11 +1,10 @@
 -- `message_hearing::hear` meets its contract.
-use Rattle.laws.specs.Usual.{_≡_, sym, ap, _∙_, Bool, true, false, List, ℕ, needs}
+use Rattle.laws.specs.Usual.{_≡_, sym, ap, _∙_, true, false, needs}
 use denote.Ref.{now}
 use Rattle.boundary_answers.specs.declared.Answer.{Answer}
 use Rattle.boundary_core.specs.Crossing.{coreOf, stationIn}
 use Rattle.boundary_places.specs.Places.{coreIn, kept}
 use Rattle.message_answers.specs.Numbers.{receivedTold}
-use Rattle.message_answers.specs.declared.Reception.{Reception}
 use Rattle.message_places.specs.Outgoing.{outgoingOf}
 use Rattle.message_places.specs.Owed.{keptOwed}
 use Rattle.message_places.specs.Places.{keptOutgoing, messagesLent}

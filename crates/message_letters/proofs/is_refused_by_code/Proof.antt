@@ -1,5 +1,5 @@
 -- `message_letters::is_refused_by_code` meets its contract.
-use Rattle.laws.specs.Usual.{refl, sym, ap, _∙_, ℕ, eqb, needs}
+use Rattle.laws.specs.Usual.{sym, ap, _∙_, ℕ, eqb, needs}
 use Rattle.message_letters.specs.Told.{isRefusedByCode}
 use Rattle.message_letters.proofs.is_refused_by_code.Statement.{statement}
 use Rattle.message_letters.proofs.is_refused_by_code.Tie as tie

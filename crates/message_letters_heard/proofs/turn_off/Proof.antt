@@ -1,26 +1,28 @@
 -- `message_letters_heard::turn_off` meets its contract.
-use Rattle.laws.specs.Usual.{ap, _∙_, needs}
-use Rattle.message_places.specs.Places.{keptOutgoing}
-use Rattle.message_letters_heard.specs.Laws.{forgotten}
+use Rattle.laws.specs.Usual.{ap, _∙_, true, needs}
+use denote.Ref.{now}
+use Rattle.message_beginning.specs.Begun.{begunWhere}
+use Rattle.message_places.specs.Outgoing.{outgoingOf}
+use Rattle.message_places.specs.Places.{keptOutgoing, messagesLent}
+use Rattle.message_places.specs.declared.Outgoing.{Outgoing}
 use Rattle.message_letters_heard.proofs.turn_off.Statement.{statement}
 use Rattle.message_letters_heard.proofs.turn_off.Tie as tie
 
 returns : tie.Need-returns
 returns c =
-    let a = c .before .before .before .before .before .before .before .before .before .before .before .before .before .before .before .args in
-    let stop = c .before .before .before .before .before .before .before .before .before .stop .ensures in
-    let keep = c .before .before .before .before .before .before .keep .ensures in (
+    let a = c .before .before .before .before .before .before .before .before .before .before .before .before .before .args in
+    let messages = messagesLent (now (a .outgoing)) (now (a .owed)) (now (a .versions)) (now (a .one-to-one)) (now (a .to-all)) in
+    let stop = c .before .before .before .before .before .before .before .stop .ensures in
+    let begin = c .begin-where .ensures in
+    let none = c .before .before .before .before .before .before .nothing .ensures in (
       stop .0,
       (
         stop .1 .0,
         (
           stop .1 .1 .1,
           (
-            forgotten _ _ _ _ _ (keep .1 ∙ c .before .before .before .before .before .before .before .nothing .ensures) (c .before .before .before .before .forget .ensures .0) (c .forget2 .ensures),
-            (
-              keep .0 ∙ ap (keptOutgoing (a .outgoing .now)) (c .before .before .before .before .before .before .before .nothing .ensures),
-              c .before .before .before .before .forget .ensures .1,
-            ),
+            begin .0 ∙ ap (λ (o : Outgoing). begunWhere true o messages) none,
+            (begin .1 .0 ∙ ap (λ (o : Outgoing). keptOutgoing (now (a .outgoing)) (outgoingOf (begunWhere true o messages))) none, begin .1 .1),
           ),
         ),
       ),
@@ -30,16 +32,10 @@ stop-requires : tie.Need-stop-requires
 stop-requires c κs = search needs
 
 nothing-requires : tie.Need-nothing-requires
-nothing-requires c κs = search needs
+nothing-requires c κs = tt
 
-keep-requires : tie.Need-keep-requires
-keep-requires c κs = search needs
-
-forget-requires : tie.Need-forget-requires
-forget-requires c κs = search needs
-
-forget-requires-2 : tie.Need-forget-requires-2
-forget-requires-2 c κs = search needs
+begin-where-requires : tie.Need-begin-where-requires
+begin-where-requires c κs = search needs
 
 pub turn-off-spec : {M : Type 1} → statement M
-turn-off-spec = tie.close (tie.spec stop-requires nothing-requires keep-requires forget-requires forget-requires-2 returns)
+turn-off-spec = tie.close (tie.spec stop-requires nothing-requires begin-where-requires returns)

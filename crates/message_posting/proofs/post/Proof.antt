@@ -1,5 +1,5 @@
 -- `message_posting::post` meets its contract.
-use Rattle.laws.specs.Usual.{_≡_, refl, sym, ap, ap₂, _∙_, Bool, true, false, not, _&&_, List, ℕ, _<_, _≤_, arith, length, eqb, leb, needs}
+use Rattle.laws.specs.Usual.{_≡_, sym, ap, ap₂, _∙_, true, false, List, ℕ, _<_, arith, length, leb, needs}
 use borrow.Author.Tests.{eq-eqb, ne-eqb, not-true, not-false, leb-true}
 use denote.Ref.{now}
 use Rattle.boundary_core.specs.Crossing.{phaseOf, stationIn}
@@ -7,13 +7,12 @@ use Rattle.boundary_core.specs.declared.Core.{Core}
 use Rattle.boundary_places.specs.Places.{coreIn}
 use Rattle.frame.specs.declared.Refusal.the-variants as refusals
 use Rattle.laws.specs.Tests.{first}
-use Rattle.message.specs.declared.Confirmation.{Confirmation}
 use Rattle.message.specs.declared.Posted.the-variants as posted
 use Rattle.message_places.specs.Outgoing.{messagesOf}
 use Rattle.message_places.specs.Places.{outgoingIn}
 use Rattle.message_places.specs.declared.Outgoing.{Outgoing}
 use Rattle.message_rules.specs.Rules.Again.{isOpen}
-use Rattle.message_rules.specs.Rules.Posting.{Posting, waiting}
+use Rattle.message_rules.specs.Rules.Posting.{waiting}
 use Rattle.message_rules.specs.Rules.State.{Messages, withSlot}
 use Rattle.station.specs.Rules.State.{isOff}
 use Rattle.message_posting.specs.Sendable.{postIn, sendable-in, buffer-wrong, not-sendable, still-open, at-off, handed, meets, left-alone}

@@ -1,16 +1,12 @@
 -- `message_ticking::tick` meets its contract.
-use Rattle.laws.specs.Usual.{_≡_, sym, ap, ap₂, _∙_, Bool, not, _&&_, List, needs}
+use Rattle.laws.specs.Usual.{sym, ap, ap₂, _∙_, Bool, not, _&&_, needs}
 use denote.Ref.{now}
 use Rattle.boundary_core.specs.Crossing.{stationIn}
 use Rattle.boundary_places.specs.Places.{coreIn}
-use Rattle.message.specs.declared.Confirmation.{Confirmation}
 use Rattle.message_places.specs.Outgoing.{outgoingOf, messagesOf}
 use Rattle.message_places.specs.Places.{outgoingIn, keptOutgoing}
 use Rattle.message_rules.specs.Rules.Again.{ticked, turned}
-use Rattle.message_rules.specs.Rules.Calls.{takes}
-use Rattle.message_rules.specs.Rules.State.{Sources}
 use Rattle.message_taking.specs.Taking.{taken-by, held-after}
-use Rattle.station.specs.Rules.Calls as base
 use Rattle.station.specs.Rules.Ticking.{tickOf}
 use Rattle.message_ticking.proofs.tick.Statement.{statement}
 use Rattle.message_ticking.proofs.tick.Tie as tie

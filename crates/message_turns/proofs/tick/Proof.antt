@@ -1,5 +1,5 @@
 -- `message_turns::tick` meets its contract.
-use Rattle.laws.specs.Usual.{_≡_, refl, sym, ap, _∙_, Bool, true, false, _||_, needs}
+use Rattle.laws.specs.Usual.{_≡_, sym, ap, _∙_, Bool, false, needs}
 use denote.Ref.{now}
 use Rattle.laws.specs.Tests.{neither-first, neither-second}
 use Rattle.message_places.specs.Outgoing.{messagesOf}
