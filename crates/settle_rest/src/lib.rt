@@ -69,7 +69,7 @@ fn skip(running: Running, steps: u64) -> Running
     let mut left = running.left;
     let mut more = steps;
     while 0 < more {
-        let stepped = settle_run::step(&mut views, &mut numbers);
+        let stepped = settle_steps::step(&mut views, &mut numbers);
         settled = settle_run::add(settled, stepped);
         left = one_less(left);
         more -= 1;
@@ -89,7 +89,7 @@ pub fn shorten(printing: Printing, shown: u64) -> Printing
 {
     let running = printing.running;
     let ring = running.ring;
-    let settled = settle_run::settle(ring);
+    let settled = settle_steps::settle(ring);
     let steps = settled.passes as u64 + settled.silences as u64;
     if steps <= shown {
         return printing;

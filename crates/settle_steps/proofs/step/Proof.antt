@@ -8,11 +8,11 @@ use Rattle.settle_moves.specs.Moves.{passedView, viewAfter, moved}
 use Rattle.settle_moves.specs.Each.{at-each}
 use Rattle.settle_counts.specs.Counts.{aboveZero, carriedNumbers}
 use Rattle.settle_counts.specs.Sums.{carried-same}
 use Rattle.settle_run.specs.Run.{passBy, eventIn, steppedBy}
 use Rattle.settle_run.specs.Running.{numbersAfter, steppedWith}
 use Rattle.settle_run.specs.declared.Kind.the-variants.{Pass}
-use Rattle.settle_run.proofs.step.Statement.{statement}
-use Rattle.settle_run.proofs.step.Tie as tie
+use Rattle.settle_steps.proofs.step.Statement.{statement}
+use Rattle.settle_steps.proofs.step.Tie as tie
 
 -- what holds after the event that comes
 module _ (ring : Ring) (numbers : List ℕ) (event : Event) (comes : eventIn ring ≡ event) where

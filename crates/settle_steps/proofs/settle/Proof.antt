@@ -4,13 +4,13 @@ use borrow.Author.Tests.{not-true, not-false}
 use mir.Val.{Fits}
 use mir.Syntax.{w8}
 use Rattle.settle_views.specs.Views.{stationsOf}
 use Rattle.settle_run.specs.declared.Running.{Running}
 use Rattle.settle_run.specs.Run.{settledOf, Bounded}
 use Rattle.settle_run.specs.Running.{hasEnded, runningIn, endFrom}
 use Rattle.settle_run.specs.Whole.{settled-bounded}
 use Rattle.settle_run.specs.Counted.{advanced, some-left, end-more, end-over, run-ends}
-use Rattle.settle_run.proofs.settle.Statement.{statement}
-use Rattle.settle_run.proofs.settle.Tie as tie
+use Rattle.settle_steps.proofs.settle.Statement.{statement}
+use Rattle.settle_steps.proofs.settle.Tie as tie
 
 abbrev Inv-loop : tie.InvT-loop
 Inv-loop views₀ numbers₀ settled₀ left₀ views numbers settled left = endFrom left (runningIn views numbers settled left) ≡ endFrom left₀ (runningIn views₀ numbers₀ settled₀ left₀)
