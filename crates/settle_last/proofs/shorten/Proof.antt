@@ -3,9 +3,9 @@ use Rattle.laws.specs.Usual.{sym, ap, _∙_, ℕ, _+_, _-_, arith, needs}
 use Rattle.settle_run.specs.declared.Running.{Running}
 use Rattle.settle_run.specs.declared.Settled.{Settled}
 use Rattle.settle_run.specs.Counted.{runningAfter}
 use Rattle.settle_rest.specs.Shown.{all-shown}
-use Rattle.settle_rest.proofs.shorten.Statement.{statement}
-use Rattle.settle_rest.proofs.shorten.Tie as tie
+use Rattle.settle_last.proofs.shorten.Statement.{statement}
+use Rattle.settle_last.proofs.shorten.Tie as tie
 
 settle-requires : tie.Need-settle-requires
 settle-requires c κs = search needs

@@ -2,8 +2,8 @@
 use Rattle.laws.specs.Usual.{_≡_, refl, ap, _∙_, ℕ, suc, _-_, arith, needs}
 use Rattle.settle_run.specs.Running.{runningIn}
 use Rattle.settle_run.specs.Counted.{runningAfter, advanced}
-use Rattle.settle_rest.proofs.skip.Statement.{statement}
-use Rattle.settle_rest.proofs.skip.Tie as tie
+use Rattle.settle_last.proofs.skip.Statement.{statement}
+use Rattle.settle_last.proofs.skip.Tie as tie
 
 abbrev Inv-loop : tie.InvT-loop
 Inv-loop steps views₀ numbers₀ settled₀ left₀ more₀ views numbers settled left more = runningAfter more (runningIn views numbers settled left) ≡ runningAfter more₀ (runningIn views₀ numbers₀ settled₀ left₀)
