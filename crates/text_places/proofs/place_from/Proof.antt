@@ -4,9 +4,9 @@ use native.Mathlib.Numerals.{add-one}
 use lib.ListN.{drop-of-length-le}
 use lib.Seq.{drop-cons}
 use borrow.Author.Tests.{eq-eqb, ne-eqb}
 use Rattle.text_reading.specs.Marks.{before}
-use Rattle.text_reading.proofs.place_from.Statement.{statement}
-use Rattle.text_reading.proofs.place_from.Tie as tie
+use Rattle.text_places.proofs.place_from.Statement.{statement}
+use Rattle.text_places.proofs.place_from.Tie as tie
 
 abbrev Inv-loop : tie.InvT-loop
 Inv-loop octets mark from place₀ place = place + before mark (drop place octets) ≡ from + before mark (drop from octets)
