@@ -2,10 +2,10 @@
 use Rattle.laws.specs.Usual.{_≡_, refl, sym, ap, ap₂, _∙_, List, [], ℕ, _+_, _-_, arith, length, getD, drop}
 use lib.ListN.{drop-of-length-le}
 use Rattle.text_scanning.specs.Scans.{scan-on, scan-ended, buffer-on, buffer-ended}
 use Rattle.replay_input.specs.Gathering.{pushed, stored, made, scanned, bufferScanned}
 use Rattle.replay_input.specs.declared.Line.{Line}
-use Rattle.replay_input.proofs.scan.Statement.{statement}
-use Rattle.replay_input.proofs.scan.Tie as tie
+use Rattle.replay_scanning.proofs.scan.Statement.{statement}
+use Rattle.replay_scanning.proofs.scan.Tie as tie
 
 abbrev Inv-loop : tie.InvT-loop
 Inv-loop text from buffer₀ gathered₀ next₀ buffer gathered next =

@@ -1,8 +1,8 @@
 -- `replay_input::store` meets its contract.
 use Rattle.laws.specs.Usual.{sym, needs}
 use lib.Seq.{set-out}
-use Rattle.replay_input.proofs.store.Statement.{statement}
-use Rattle.replay_input.proofs.store.Tie as tie
+use Rattle.replay_scanning.proofs.store.Statement.{statement}
+use Rattle.replay_scanning.proofs.store.Tie as tie
 
 slice-write-buffer : tie.Need-slice-write-buffer
 slice-write-buffer c = search needs

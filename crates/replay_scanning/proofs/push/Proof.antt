@@ -1,8 +1,8 @@
 -- `replay_input::push` meets its contract.
 use borrow.Author.Tests.{lt-ltb, le-ltb}
 use borrow.Author.Needs.{needs}
-use Rattle.replay_input.proofs.push.Statement.{statement}
-use Rattle.replay_input.proofs.push.Tie as tie
+use Rattle.replay_scanning.proofs.push.Statement.{statement}
+use Rattle.replay_scanning.proofs.push.Tie as tie
 
 store-requires : tie.Need-store-requires
 store-requires c κs = search needs

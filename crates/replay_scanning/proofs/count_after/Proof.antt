@@ -1,8 +1,8 @@
 -- `replay_input::count_after` meets its contract.
 use borrow.Author.Tests.{le-leb, lt-leb}
 use borrow.Author.Needs.{needs}
-use Rattle.replay_input.proofs.count_after.Statement.{statement}
-use Rattle.replay_input.proofs.count_after.Tie as tie
+use Rattle.replay_scanning.proofs.count_after.Statement.{statement}
+use Rattle.replay_scanning.proofs.count_after.Tie as tie
 
 add-result : tie.Need-add-result
 add-result c = search needs
