@@ -20,7 +20,7 @@ pub fn step(views: &mut [u8; 256], numbers: &mut [u16; 256]) -> Stepped
 {
     let holder = settle_views::smallest_holder(views);
     if holder == 0 {
-        let moves = settle_moves::silence_views(views);
+        let moves = settle_next::silence_views(views);
         return Stepped {
             kind: Kind::Silence,
             from: 0,
@@ -28,7 +28,7 @@ pub fn step(views: &mut [u8; 256], numbers: &mut [u16; 256]) -> Stepped
             views: settle_counts::silence_counts(numbers, &moves),
         };
     }
-    let to = settle_moves::next_after(views, holder);
+    let to = settle_next::next_after(views, holder);
     settle_moves::pass_views(views, holder, to);
     Stepped {
         kind: Kind::Pass,

@@ -1,8 +1,8 @@
--- `settle_moves::silence_moves` meets its contract.
+-- `settle_next::silence_moves` meets its contract.
 use Rattle.laws.specs.Usual.{arith, needs}
 use Rattle.settle_moves.specs.Silent.{Placed, placed-none, placed-listed, placed-unlisted, placed-all}
-use Rattle.settle_moves.proofs.silence_moves.Statement.{statement}
-use Rattle.settle_moves.proofs.silence_moves.Tie as tie
+use Rattle.settle_next.proofs.silence_moves.Statement.{statement}
+use Rattle.settle_next.proofs.silence_moves.Tie as tie
 
 abbrev Inv-loop : tie.InvT-loop
 Inv-loop views moves₀ above₀ view₀ moves above view = Placed views moves above view

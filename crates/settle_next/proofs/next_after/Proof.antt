@@ -1,8 +1,8 @@
--- `settle_moves::next_after` meets its contract.
+-- `settle_next::next_after` meets its contract.
 use Rattle.laws.specs.Usual.{_≡_, refl, _∙_, arith, length, needs}
 use Rattle.settle_moves.specs.Found.{next-found, next-placed}
-use Rattle.settle_moves.proofs.next_after.Statement.{statement}
-use Rattle.settle_moves.proofs.next_after.Tie as tie
+use Rattle.settle_next.proofs.next_after.Statement.{statement}
+use Rattle.settle_next.proofs.next_after.Tie as tie
 
 first-listed-requires : tie.Need-first-listed-requires
 first-listed-requires c κs = search needs

@@ -1,8 +1,8 @@
--- `settle_moves::placed` meets its contract.
+-- `settle_next::placed` meets its contract.
 use Rattle.laws.specs.Usual.{needs}
 use borrow.Author.Tests.{lt-ltb, le-ltb}
-use Rattle.settle_moves.proofs.placed.Statement.{statement}
-use Rattle.settle_moves.proofs.placed.Tie as tie
+use Rattle.settle_next.proofs.placed.Statement.{statement}
+use Rattle.settle_next.proofs.placed.Tie as tie
 
 cast-result : tie.Need-cast-result
 cast-result c = search needs

@@ -1,13 +1,13 @@
--- `settle_moves::move_views` meets its contract.
+-- `settle_next::move_views` meets its contract.
 use Rattle.laws.specs.Usual.{_≡_, refl, ap, _∙_, List, ℕ, _-_, _<_, arith, length, getD, set, needs}
 use lib.ListN.{length-set}
 use Rattle.settling.specs.Ring.{silence}
 use Rattle.settle_views.specs.Views.{ringWith, stationsFrom}
 use Rattle.settle_moves.specs.Moves.{viewAfter}
 use Rattle.settle_moves.specs.Each.{at-each}
 use Rattle.settle_moves.specs.Loops.{Mapped, mapped-more, mapped-all}
-use Rattle.settle_moves.proofs.move_views.Statement.{statement}
-use Rattle.settle_moves.proofs.move_views.Tie as tie
+use Rattle.settle_next.proofs.move_views.Statement.{statement}
+use Rattle.settle_next.proofs.move_views.Tie as tie
 
 abbrev Inv-loop : tie.InvT-loop
 Inv-loop views₀ moves station₀ views station = Mapped (viewAfter (stationsFrom 0 views₀) silence) views₀ views station × (length views ≡ length views₀)

@@ -1,9 +1,9 @@
--- `settle_moves::first_listed` meets its contract.
+-- `settle_next::first_listed` meets its contract.
 use Rattle.laws.specs.Usual.{_≡_, refl, sym, _∙_, _-_, arith, length, drop, needs}
 use Rattle.settle_moves.specs.Moves.{firstListed}
 use Rattle.settle_moves.specs.Loops.{listed-end, listed-skip, listed-first}
-use Rattle.settle_moves.proofs.first_listed.Statement.{statement}
-use Rattle.settle_moves.proofs.first_listed.Tie as tie
+use Rattle.settle_next.proofs.first_listed.Statement.{statement}
+use Rattle.settle_next.proofs.first_listed.Tie as tie
 
 abbrev Inv-loop : tie.InvT-loop
 Inv-loop views from otherwise number₀ number = firstListed number (drop number views) otherwise ≡ firstListed from (drop from views) otherwise
