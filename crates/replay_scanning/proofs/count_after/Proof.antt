@@ -1,4 +1,4 @@
--- `replay_input::count_after` meets its contract.
+-- `replay_scanning::count_after` meets its contract.
 use borrow.Author.Tests.{le-leb, lt-leb}
 use borrow.Author.Needs.{needs}
 use Rattle.replay_scanning.proofs.count_after.Statement.{statement}

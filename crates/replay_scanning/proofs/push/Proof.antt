@@ -1,4 +1,4 @@
--- `replay_input::push` meets its contract.
+-- `replay_scanning::push` meets its contract.
 use borrow.Author.Tests.{lt-ltb, le-ltb}
 use borrow.Author.Needs.{needs}
 use Rattle.replay_scanning.proofs.push.Statement.{statement}

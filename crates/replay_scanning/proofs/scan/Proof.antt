@@ -1,4 +1,4 @@
--- `replay_input::scan` meets its contract.
+-- `replay_scanning::scan` meets its contract.
 use Rattle.laws.specs.Usual.{_≡_, refl, sym, ap, ap₂, _∙_, List, [], ℕ, _+_, _-_, arith, length, getD, drop}
 use lib.ListN.{drop-of-length-le}
 use Rattle.text_scanning.specs.Scans.{scan-on, scan-ended, buffer-on, buffer-ended}

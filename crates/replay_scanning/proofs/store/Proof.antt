@@ -1,4 +1,4 @@
--- `replay_input::store` meets its contract.
+-- `replay_scanning::store` meets its contract.
 use Rattle.laws.specs.Usual.{sym, needs}
 use lib.Seq.{set-out}
 use Rattle.replay_scanning.proofs.store.Statement.{statement}

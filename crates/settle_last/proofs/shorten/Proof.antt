@@ -1,4 +1,4 @@
--- `settle_rest::shorten` meets its contract.
+-- `settle_last::shorten` meets its contract.
 use Rattle.laws.specs.Usual.{sym, ap, _∙_, ℕ, _+_, _-_, arith, needs}
 use Rattle.settle_run.specs.declared.Running.{Running}
 use Rattle.settle_run.specs.declared.Settled.{Settled}

@@ -1,4 +1,4 @@
--- `settle_rest::skip` meets its contract.
+-- `settle_last::skip` meets its contract.
 use Rattle.laws.specs.Usual.{_≡_, refl, ap, _∙_, ℕ, suc, _-_, arith, needs}
 use Rattle.settle_run.specs.Running.{runningIn}
 use Rattle.settle_run.specs.Counted.{runningAfter, advanced}

@@ -1,4 +1,4 @@
--- `settle_run::settle` meets its contract.
+-- `settle_steps::settle` meets its contract.
 use Rattle.laws.specs.Usual.{_≡_, refl, sym, ap, subst, _∙_, false, ℕ, _-_, _<_, _≤_, arith, length, getD, needs}
 use borrow.Author.Tests.{not-true, not-false}
 use mir.Val.{Fits}

@@ -1,4 +1,4 @@
--- `settle_run::step` meets its contract.
+-- `settle_steps::step` meets its contract.
 use Rattle.laws.specs.Usual.{_≡_, sym, ap, _∙_, Bool, cond, List, ℕ, arith, getD, map, needs}
 use borrow.Author.Tests.{eq-eqb, ne-eqb}
 use Rattle.settling.specs.Ring.{Event, pass, silence}

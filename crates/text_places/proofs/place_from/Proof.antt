@@ -1,4 +1,4 @@
--- `text_reading::place_from` meets its contract.
+-- `text_places::place_from` meets its contract.
 use Rattle.laws.specs.Usual.{_≡_, refl, ap, _+_, _-_, arith, length, drop, needs}
 use native.Mathlib.Numerals.{add-one}
 use lib.ListN.{drop-of-length-le}

@@ -1,4 +1,4 @@
--- `text_reading::place_of` meets its contract.
+-- `text_places::place_of` meets its contract.
 use Rattle.laws.specs.Usual.{arith}
 use Rattle.text_places.proofs.place_of.Statement.{statement}
 use Rattle.text_places.proofs.place_of.Tie as tie
