@@ -1,8 +1,7 @@
 // A line of the program `replay`'s input. It comes octet by octet, so that a line of any length needs no more memory than the longest command
 // that is not a `hear`.
-use text_hexadecimal::is_hexadecimal;
-ghost use Rattle.laws.specs.Usual.{_≡_, drop, set};
-ghost use Rattle.replay_input.specs.Gathering.{fresh, countAfter, pushed, scanned, bufferScanned, sizeIn};
+ghost use Rattle.laws.specs.Usual.{_≡_};
+ghost use Rattle.replay_input.specs.Gathering.{fresh, sizeIn};
 
 // A line so far: the number of its octets, at most 34,824, of which the first 34,823 are stored at the front of the buffer; whether all
 // octets from place 5 on are hexadecimal digits, and whether the number of these is odd.
@@ -26,67 +25,6 @@ pub fn begin() -> Line
         count: 0,
         digits: true,
         odd: false,
-    }
-}
-
-fn count_after(count: usize) -> usize
-    ensures { λ r. ⌜ r ≡ countAfter count ⌝ }
-{
-    if count <= 34823 { count + 1 } else { count }
-}
-
-fn store(count: usize, octet: u8, buffer: &mut [u8])
-    ensures { λ _. ⌜ now (buffer .exit) ≡ set (now (buffer .entry)) count octet ⌝ }
-{
-    if count < buffer.len() {
-        buffer[count] = octet;
-    }
-}
-
-// One more octet of the line.
-fn push(line: Line, octet: u8, buffer: &mut [u8]) -> Line
-    ensures { λ r. ⌜ r ≡ pushed line octet ⌝ }
-    ensures { λ _. ⌜ now (buffer .exit) ≡ set (now (buffer .entry)) (line .count) octet ⌝ }
-{
-    let count = line.count;
-    store(count, octet, buffer);
-    if count < 5 {
-        return Line {
-            count: count + 1,
-            digits: line.digits,
-            odd: line.odd,
-        };
-    }
-    Line {
-        count: count_after(count),
-        digits: line.digits & is_hexadecimal(octet),
-        odd: !line.odd,
-    }
-}
-
-// The octets of a text from place `from` on, up to its next line feed or its end.
-pub fn scan(line: Line, text: &[u8], from: usize, buffer: &mut [u8]) -> Scanned
-    ensures { λ r. ⌜ r ≡ scanned line from (drop from (now (text .entry))) ⌝ }
-    ensures { λ _. ⌜ now (buffer .exit) ≡ bufferScanned line (now (buffer .entry)) (drop from (now (text .entry))) ⌝ }
-{
-    let mut gathered = line;
-    let mut next = from;
-    while next < text.len() {
-        let octet = text[next];
-        next += 1;
-        if octet == b'\n' {
-            return Scanned {
-                line: gathered,
-                next,
-                ended: true,
-            };
-        }
-        gathered = push(gathered, octet, buffer);
-    }
-    Scanned {
-        line: gathered,
-        next,
-        ended: false,
     }
 }
 

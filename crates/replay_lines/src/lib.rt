@@ -72,7 +72,7 @@ pub fn take_next(
     ensures { λ r. ⌜ (going .at < length (now (part .entry)) → Forward (now (part .entry)) (going .at) (r .at)) ⌝ }
 {
     let station = going.station;
-    let scanned = replay_input::scan(going.line, part, going.at, stored);
+    let scanned = replay_scanning::scan(going.line, part, going.at, stored);
     let rest = scanned.line;
     let to = scanned.next;
     if scanned.ended {

@@ -1,7 +1,7 @@
 // The words of a line, and words as numbers in decimal.
+use text_places::place_from;
 use text_reading::Value;
 use text_reading::decimal_in;
-use text_reading::place_from;
 ghost use Rattle.laws.specs.Usual.{_≡_, _+_, drop};
 ghost use Rattle.text.specs.Lines.{space};
 ghost use Rattle.text_reading.specs.Marks.{before};

@@ -16,7 +16,7 @@ fn run_case(index: usize) {
     let count = io::read_full(file, &mut input);
     libc::close(file);
     let printing = settle_rest::begin(&input[..count]);
-    settle_write::write_rest(settle_rest::shorten(printing, 6));
+    settle_write::write_rest(settle_last::shorten(printing, 6));
 }
 
 fn main() {

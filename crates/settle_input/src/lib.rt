@@ -1,8 +1,8 @@
 // Reading the input of `settle`: the ring, or the number of the first bad line.
 use settle_views::Ring;
+use text_places::place_of;
 use text_reading::Value;
 use text_reading::decimal_in;
-use text_reading::place_of;
 ghost use Rattle.laws.specs.Usual.{_≡_, _<_, length};
 ghost use Rattle.settle_input.specs.Input.{numberIn, noEntry, entryOf, firstLine, noRing, lineAt, formsOf, bad, readOf};
 

@@ -47,7 +47,7 @@ fn put_run(place: Place, views: &mut [u8; 256], numbers: &mut [u16; 256], output
         };
         return Put { place, length };
     }
-    let stepped = settle_run::step(views, numbers);
+    let stepped = settle_steps::step(views, numbers);
     let length = settle_output::put_step(stepped, output);
     let settled = settle_run::add(settled, stepped);
     let left = left - 1;

@@ -1,10 +1,8 @@
-// The run that `settle` makes: one step of it, and the whole with both counts.
+// The run that `settle` makes: its beginning, its end, and the steps that it counts.
 use settle_views::Ring;
-ghost use Rattle.laws.specs.Usual.{_≡_, length};
-ghost use Rattle.settle_moves.specs.Moves.{moved};
-ghost use Rattle.settle_views.specs.Views.{ringWith, stationsOf};
-ghost use Rattle.settle_run.specs.Run.{eventIn, isRing, limitOf, settledOf, Bounded};
-ghost use Rattle.settle_run.specs.Running.{numbersAfter, steppedWith, oneMore, added, runningOf, hasEnded};
+ghost use Rattle.laws.specs.Usual.{_≡_};
+ghost use Rattle.settle_run.specs.Run.{isRing, limitOf};
+ghost use Rattle.settle_run.specs.Running.{oneMore, added, runningOf, hasEnded};
 
 // What a step is, by the letter of its output line.
 pub enum Kind {
@@ -33,32 +31,6 @@ pub struct Running {
     pub numbers: [u16; 256],
     pub settled: Settled,
     pub left: u32,
-}
-
-// One step, made in place.
-pub fn step(views: &mut [u8; 256], numbers: &mut [u16; 256]) -> Stepped
-    ensures { λ r. ⌜ r ≡ steppedWith (ringWith (now (views .entry))) (now (numbers .entry)) ⌝ }
-    ensures { λ _. ⌜ ringWith (now (views .exit)) ≡ moved (ringWith (now (views .entry))) (eventIn (ringWith (now (views .entry)))) ⌝ }
-    ensures { λ _. ⌜ now (numbers .exit) ≡ numbersAfter (ringWith (now (views .entry))) (now (numbers .entry)) ⌝ }
-{
-    let holder = settle_views::smallest_holder(views);
-    if holder == 0 {
-        let moves = settle_moves::silence_views(views);
-        return Stepped {
-            kind: Kind::Silence,
-            from: 0,
-            to: 0,
-            views: settle_counts::silence_counts(numbers, &moves),
-        };
-    }
-    let to = settle_moves::next_after(views, holder);
-    settle_moves::pass_views(views, holder, to);
-    Stepped {
-        kind: Kind::Pass,
-        from: holder,
-        to,
-        views: settle_counts::pass_counts(numbers, holder, to),
-    }
 }
 
 fn is_ring(ring: Ring) -> bool
@@ -123,21 +95,4 @@ pub fn has_ended(settled: Settled, left: u32) -> bool
     ensures { λ r. ⌜ r ≡ hasEnded settled left ⌝ }
 {
     (left == 0) | (settled.views <= 1)
-}
-
-pub fn settle(ring: Ring) -> Settled
-    ensures { λ r. ⌜ r ≡ settledOf ring ⌝ }
-    ensures { λ r. ⌜ Bounded (length (stationsOf ring)) r ⌝ }
-{
-    let running = begin(ring);
-    let mut views = ring.views;
-    let mut numbers = running.numbers;
-    let mut settled = running.settled;
-    let mut left = running.left;
-    while !has_ended(settled, left) {
-        let stepped = step(&mut views, &mut numbers);
-        settled = add(settled, stepped);
-        left -= 1;
-    }
-    settled
 }
