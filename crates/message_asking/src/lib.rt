@@ -6,6 +6,7 @@ use boundary_answers::frame_answer;
 use boundary_lists::AREA_NUMBERS;
 use boundary_places::NUMBERS;
 use boundary_reading::core_in;
+use message_places::MAIL_OCTETS;
 use message_places::OUTGOING_NUMBERS;
 use message_places::OWED_NUMBERS;
 use message_taking::is_holder;
@@ -22,22 +23,14 @@ ghost use Rattle.message_places.specs.Places.{outgoingIn, keptOutgoing};
 ghost use Rattle.message_rules.specs.Rules.Confirming.{carriedIn};
 ghost use Rattle.message_rules.specs.Rules.State.{Sources};
 
-// The mail buffer.
-const MAIL_OCTETS: usize = 1024;
-
-fn are_eighteen(numbers: &[u32])
-    requires { ⌜ length (now numbers) ≡ 18 ⌝ }
-    ensures { λ _. ⌜ length (now (numbers .entry)) ≡ 18 ⌝ }
-{}
-
 // Nothing is done to the numbers. A proof is told here how many they are.
 fn leave(core: &[u32; NUMBERS], outgoing: &[u32; OUTGOING_NUMBERS], owed: &[u32; OWED_NUMBERS])
     ensures { λ _. ⌜ length (now (core .entry)) ≡ 18 ⌝ }
     ensures { λ _. ⌜ length (now (outgoing .entry)) ≡ 18 ⌝ }
     ensures { λ _. ⌜ length (now (owed .entry)) ≡ 25 ⌝ }
 {
-    are_eighteen(core);
-    are_eighteen(outgoing);
+    boundary_handing::leave(core);
+    message_kept::leave(outgoing);
     message_owed::leave(owed);
 }
 

@@ -76,12 +76,6 @@ fn turn_off(
     message_beginning::begin_where(true, nothing, outgoing, owed, versions, one_to_one, to_all);
 }
 
-// A proof is told here how many they are.
-fn are_eighteen(numbers: &[u32])
-    requires { ⌜ length (now numbers) ≡ 18 ⌝ }
-    ensures { λ _. ⌜ length (now (numbers .entry)) ≡ 18 ⌝ }
-{}
-
 // The octets are known to be a message's, so its header is required here.
 pub fn hear_letter(
     core: &mut [u32; NUMBERS],
@@ -122,7 +116,7 @@ pub fn hear_letter(
         );
         return told(refused(Refusal::Taken));
     }
-    are_eighteen(outgoing);
+    message_kept::leave(outgoing);
     let known = boundary_lists::is_listed(listed, letter.source);
     deliver(
         state,

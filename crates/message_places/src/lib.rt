@@ -7,6 +7,9 @@ pub const OUTGOING_NUMBERS: usize = 18;
 
 pub const OWED_NUMBERS: usize = 25;
 
+// The mail buffer, and the most that a message has of data.
+pub const MAIL_OCTETS: usize = 1024;
+
 // The sequence numbers last given, 0 for none.
 pub struct Given {
     // one to one

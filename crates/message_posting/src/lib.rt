@@ -7,6 +7,7 @@ use boundary_core::phase_of;
 use boundary_places::NUMBERS;
 use frame::Refusal;
 use message::Message;
+use message_places::MAIL_OCTETS;
 use message_places::OUTGOING_NUMBERS;
 ghost use Rattle.laws.specs.Usual.{_≡_, List, ℕ};
 ghost use Rattle.boundary_places.specs.Places.{coreIn};
@@ -16,9 +17,6 @@ ghost use Rattle.message_places.specs.Outgoing.{outgoingOf, messagesOf};
 ghost use Rattle.message_places.specs.Places.{outgoingIn, keptOutgoing};
 ghost use Rattle.message_posting.specs.Sendable.{sendableBy, postIn};
 ghost use Rattle.message_rules.specs.Rules.State.{Sources};
-
-// The mail buffer, and the most that a message has of data.
-const MAIL_OCTETS: usize = 1024;
 
 fn is_sendable(listed: &[bool; 256], message: Message, octets: usize) -> bool
     ensures { λ r. ⌜ r ≡ sendableBy (now (listed .entry)) message octets ⌝ }

@@ -51,29 +51,29 @@ returns c =
 
 returns-2 : tie.Need-returns-2
 returns-2 c =
-    let a = c .before .before .before .before .before .before .before .before .before .before .before .before .before .before .before .before .args in
+    let a = c .before .before .before .before .before .before .before .before .before .before .before .before .before .before .before .args in
     let octets = a .octets .now in
     let members = membersIn (a .listed .now) (a .areas .now) (a .watch .now) (a .misses .now) in
     let sources = sourcesIn (a .versions .now) (a .one-to-one .now) (a .to-all .now) in
     let outgoing = outgoingIn (a .outgoing .now) in
     let owed = owedIn (a .owed .now) in
     let messages = messagesOf outgoing owed sources in
-    let state = c .before .before .before .before .before .before .before .before .before .before .before .before .core-in .result in
-    let letter = c .before .before .before .before .before .before .before .before .before .before .before .before .before .before .letter-in .result in
+    let state = c .before .before .before .before .before .before .before .before .before .before .before .core-in .result in
+    let letter = c .before .before .before .before .before .before .before .before .before .before .before .before .before .letter-in .result in
     let known = c .before .before .before .before .before .is-listed .result in
-    let small : letter .source < 256 = omega (arith, c .before .before .before .before .before .before .before .before .before .before .before .before .before .before .letter-in .ok) in
+    let small : letter .source < 256 = omega (arith, c .before .before .before .before .before .before .before .before .before .before .before .before .before .letter-in .ok) in
     let listed = listed-in (a .listed .now) (a .areas .now) (a .watch .now) (a .misses .now) (letter .source) small ∙ sym (c .before .before .before .before .before .is-listed .ensures) in
     let after = deliveredBy state known (length octets) owed sources letter in
     let done = c .deliver .ensures in
     meets (a .core .now) (a .outgoing .now) (a .owed .now) (letterHeard (stationOf (coreIn (a .core .now)) members) messages (length octets) (letterIn octets))
     (stationOf state members) (messagesOf outgoing (after .owed) (after .sources)) (after .answer) _ (a .core .now) members (a .outgoing .now) _ _
-    (ap₂ (λ (k : Core) (l : Letter). letterHeard (stationOf k members) messages (length octets) l) (sym (c .before .before .before .before .before .before .before .before .before .before .before .before .core-in .ensures .0)) (sym (c .before .before .before .before .before .before .before .before .before .before .before .before .before .before .letter-in .ensures))
-    ∙ delivered-heard state members (length octets) letter known listed owed sources outgoing (sym (c .before .before .before .before .before .before .before .before .before .before .before .turns-off .ensures) ∙ c .before .before .before .before .before .before .before .before .before .before .if1 .left))
-    (left-alone (a .core .now) (stationOf state members) (c .before .before .before .before .before .before .before .before .before .before .before .before .core-in .ensures .1)
-    (sym (core-in-back (a .core .now) members) ∙ ap (λ (k : Core). coreOf (stationOf k members)) (sym (c .before .before .before .before .before .before .before .before .before .before .before .before .core-in .ensures .0))))
+    (ap₂ (λ (k : Core) (l : Letter). letterHeard (stationOf k members) messages (length octets) l) (sym (c .before .before .before .before .before .before .before .before .before .before .before .core-in .ensures .0)) (sym (c .before .before .before .before .before .before .before .before .before .before .before .before .before .letter-in .ensures))
+    ∙ delivered-heard state members (length octets) letter known listed owed sources outgoing (sym (c .before .before .before .before .before .before .before .before .before .before .turns-off .ensures) ∙ c .before .before .before .before .before .before .before .before .before .if1 .left))
+    (left-alone (a .core .now) (stationOf state members) (c .before .before .before .before .before .before .before .before .before .before .before .core-in .ensures .1)
+    (sym (core-in-back (a .core .now) members) ∙ ap (λ (k : Core). coreOf (stationOf k members)) (sym (c .before .before .before .before .before .before .before .before .before .before .before .core-in .ensures .0))))
     refl
     (ap₂ (λ (w : List Confirmation) (s : Sources). messagesOf outgoing w s) (done .1 .0) (known-after (after .sources) _ _ _ (done .1 .1 .1)))
-    (sym (outgoing-same (a .outgoing .now) (c .before .before .before .before .before .before .before .are-eighteen .ensures)))
+    (sym (outgoing-same (a .outgoing .now) (c .before .before .before .before .before .before .before .leave .ensures)))
     (done .1 .1 .0)
     (done .0)
 
@@ -95,8 +95,8 @@ refused-requires c κs = search needs
 told-requires : tie.Need-told-requires
 told-requires c κs = search needs
 
-are-eighteen-requires : tie.Need-are-eighteen-requires
-are-eighteen-requires c κs = search needs
+leave-requires : tie.Need-leave-requires
+leave-requires c κs = search needs
 
 is-listed-requires : tie.Need-is-listed-requires
 is-listed-requires c κs = search needs
@@ -115,7 +115,7 @@ hear-letter-spec =
     refused-requires
     told-requires
     returns
-    are-eighteen-requires
+    leave-requires
     is-listed-requires
     deliver-requires
     returns-2)
