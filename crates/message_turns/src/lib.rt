@@ -12,11 +12,11 @@ ghost use Rattle.message_rules.specs.Rules.Again.{ticked as tickedOf, turned as
 ghost use Rattle.message_rules.specs.Rules.Confirming.{confirmed as confirmedOf};
 ghost use Rattle.message_rules.specs.Rules.State.{Sources};
 
-// With a turn begun, where there was a taking.
-fn turned_where(taking: bool, outgoing: Outgoing) -> Outgoing
-    ensures { λ r. ⌜ ((owed : List Confirmation) (sources : Sources) → messagesOf r owed sources ≡ turnedOf taking (messagesOf outgoing owed sources)) ⌝ }
+// With a turn begun, where one begins.
+fn turned_where(begins: bool, outgoing: Outgoing) -> Outgoing
+    ensures { λ r. ⌜ ((owed : List Confirmation) (sources : Sources) → messagesOf r owed sources ≡ turnedOf begins (messagesOf outgoing owed sources)) ⌝ }
 {
-    if taking {
+    if begins {
         message_sending::turned(outgoing)
     } else {
         outgoing
