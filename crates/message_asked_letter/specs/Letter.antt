@@ -9,11 +9,11 @@ use Rattle.boundary_holder.specs.Held.{holdsBlock}
 use Rattle.boundary_refused.specs.Taken.{participating-in}
 use Rattle.boundary_told.specs.Told.{askedTold, writtenTold}
 use Rattle.laws.specs.Tests.{first, second}
-use Rattle.message.specs.Codes.{isMessage}
 use Rattle.message.specs.declared.Letter.{Letter}
 use Rattle.message_frames.specs.Frames.{wholeLength}
 use Rattle.message_going.specs.Going.{mayGo, goes-by}
 use Rattle.message_places.specs.Outgoing.{outgoingOf}
+use Rattle.message_rules.specs.Outcomes.{goes-ready}
 use Rattle.message_rules.specs.Rules.Again.{isWaiting, isUnconfirmed, isOpen, isDue, isToGo}
 use Rattle.message_rules.specs.Rules.Cycle.{isMeasured, cycleLets, isWritable, isBeforeBlocks, goes}
 use Rattle.message_rules.specs.Rules.State.{Messages}
@@ -65,11 +65,8 @@ closed-stays station messages closed =
 -- its data fit a frame
 pub goes-small : (station : Station) (messages : Messages) → goes station messages ≡ true → messages .slot .octets ≤ 1024
 goes-small station messages now =
-    let writable = second (isToGo (messages .slot)) _
-    (second (cycleLets (station .panel .gap .0) (messages .allowed .0) (messages .wentLast)) _
-    (second (isMeasured (station .panel)) _
-    (second (isBeforeBlocks station messages) _ now))) in
-    leb-true (messages .slot .octets) 1024 (first (leb (messages .slot .octets) 1024) (isMessage (messages .slot .message .code)) writable)
+    leb-true (messages .slot .octets) 1024
+    (first (leb (messages .slot .octets) 1024) _ (second (isToGo (messages .slot)) _ (goes-ready station messages now)))
 
 -- what is told of the frame that was written
 pub letter-told : {going letter : Letter} {output written : List ℕ} {answer r : Answer} → going ≡ letter → output ≡ written

@@ -15,12 +15,13 @@ use Rattle.message_places.specs.Laws.{outgoing-same}
 use Rattle.message_places.specs.Outgoing.{outgoingOf, messagesOf}
 use Rattle.message_places.specs.Owed.{owedIn, keptOwed}
 use Rattle.message_places.specs.Places.{outgoingIn, keptOutgoing, messagesIn}
+use Rattle.message_rules.specs.Receiving.Owed.{turned-owes}
 use Rattle.message_rules.specs.Rules.Again.{turned, gone, letterGoing}
 use Rattle.message_rules.specs.Rules.Calls.{Both, takes, Asking, letterAsked, carriedBy}
 use Rattle.message_rules.specs.Rules.Confirming.{Carried, carriedIn}
 use Rattle.message_rules.specs.Rules.Cycle.{goes}
 use Rattle.message_rules.specs.Rules.Posting.{mailRight}
-use Rattle.message_rules.specs.Rules.State.{Messages, Sources}
+use Rattle.message_rules.specs.Rules.State.{Sources}
 use Rattle.message_taking.specs.Taking.{isHolder, taken-asking}
 use Rattle.station.specs.Rules.Asking as base
 use Rattle.station.specs.Rules.Asking.{lentRight}
@@ -98,11 +99,6 @@ module _ {token : Bool} (owed : List ℕ) (answer : Answer) (output : List ℕ) 
   left-alone is all =
       subst (λ (t : Bool). Carries t owed answer output answer output owed) (sym is) (refl, (refl, (refl, sym (owed-same owed all))))
 
--- a turn begun does not change what is owed
-turned-owed : (taking : Bool) (messages : Messages) → turned taking messages .owed ≡ messages .owed
-turned-owed true messages = refl
-turned-owed false messages = refl
-
 module _ (core : List ℕ) (listed : List Bool) (areas watch misses outgoing owed memory turn output : List ℕ) where
   abbrev station : Station
   station = stationIn (coreIn core) listed areas watch misses
@@ -143,7 +139,7 @@ module _ (core : List ℕ) (listed : List Bool) (areas watch misses outgoing owe
                 (
                   λ s.
                       carried .1 .1 .1
-                      ∙ ap (keptOwed owed) (still s ∙ sym (turned-owed (takes station (ask memory turn output)) (messagesOf (outgoingIn outgoing) (taken s .owed) s))),
+                      ∙ ap (keptOwed owed) (still s ∙ sym (turned-owes (takes station (ask memory turn output)) (messagesOf (outgoingIn outgoing) (taken s .owed) s))),
                   (
                     λ s. turn-is,
                     (

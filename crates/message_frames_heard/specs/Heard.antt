@@ -1,6 +1,7 @@
 -- What a frame of the base does to the message part: its confirmation, and then the taking that it brings; or all is forgotten, where it turned us off.
 -- Assumes nothing.
 use Rattle.laws.specs.Usual.{_≡_, refl, ap, _∙_, Bool, true, false, cond, _&&_, List, ℕ, _-_, _≤_, arith, length, eqb, leb}
+use mathlib.Core.Bool.{and-assoc}
 use borrow.Author.Tests.{leb-true}
 use Rattle.boundary_core.specs.Crossing.{phaseOf, coreOf, station-kept}
 use Rattle.boundary_core.specs.declared.Core.{Core}
@@ -56,11 +57,7 @@ module _ (station : Station) (messages : Messages) (octets memory assembly : Lis
       ∙ ap (λ (k : Bool). turned (takes station (base.hear octets memory assembly))
       (cond k (confirmed (station .own .number) messages (octetAt octets SNA) (confirmationIn octets)) messages))
       (ap (λ (k : Bool). k && confirms octets) m
-      ∙ nested (isParticipating (station .phase)) (isCyclicAnswer (hearOf station octets memory assembly .answer)) (confirms octets)))
-    where
-      nested : (a b c : Bool) → ((a && b) && c) ≡ (a && (b && c))
-      nested true b c = refl
-      nested false b c = refl
+      ∙ and-assoc (isParticipating (station .phase)) (isCyclicAnswer (hearOf station octets memory assembly .answer)) (confirms octets)))
 
 -- a frame with a confirmation has room for it
 pub enough : (octets : List ℕ) → confirms octets ≡ true → 84 ≤ length octets

@@ -17,10 +17,10 @@ use Rattle.station.specs.Rules.State.{isOff, isParticipating, stopped}
 use Rattle.station.specs.declared.Asked.the-variants as asked
 use Rattle.station.specs.declared.Heard.the-variants as heard
 use Rattle.station.specs.declared.Station.{Station}
-use Rattle.message_rules.specs.Rules.Again.{isOpen}
+use Rattle.message_rules.specs.Rules.Again.{isOpen, isToGo}
 use Rattle.message_rules.specs.Rules.Calls as calls
 use Rattle.message_rules.specs.Rules.Calls.{Both, letterHeard, frameHeard, Asking, letterAsked, blockAsked, askOf}
-use Rattle.message_rules.specs.Rules.Cycle.{goes}
+use Rattle.message_rules.specs.Rules.Cycle.{isBeforeBlocks, isMeasured, cycleLets, isWritable, goes}
 use Rattle.message_rules.specs.Rules.Hearing as letters
 use Rattle.message_rules.specs.Rules.Hearing.{Hearing, isLetter, isHeld, isForUs, isTaken, isStranger, need, unchanged, refused, judged, judgementOf, answerTo, messageHeard}
 use Rattle.message_rules.specs.Rules.Posting.{Posting, mailRight, isSendable, waiting, postOf}
@@ -152,6 +152,12 @@ module _ (station : Station) (messages : Messages) (message : Message) (octets m
       by true r true s true w out o = refuses refusals.Waiting
       by true r true s false w true o = off o
       by true r true s false w false o = waits r s w o
+
+-- a message that goes is there to go, and can be written
+pub goes-ready : (station : Station) (messages : Messages) → goes station messages ≡ true → (isToGo (messages .slot) && isWritable (messages .slot)) ≡ true
+goes-ready station messages now =
+    second (cycleLets (station .panel .gap .0) (messages .allowed .0) (messages .wentLast)) _
+    (second (isMeasured (station .panel)) _ (second (isBeforeBlocks station messages) _ now))
 
 -- what asking leaves: 11, a message that goes, or what the base writes or refuses
 pub data AskCases (both : Both) (memory turn output mail : List ℕ) : Asking → Type 0 where

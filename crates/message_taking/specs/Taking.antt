@@ -35,22 +35,13 @@ taken-by before left = by (isParticipating (before .phase)) (holds before) (isPa
     by : (in-before held in-left holding : Bool)
         → ((((in-before && in-left) && (holding && not held)) || false) || ((not in-before && in-left) && holding))
         ≡ ((in-left && holding) && not (in-before && held))
+    by true held false holding = refl
+    by true held true false = refl
     by true true true true = refl
-    by true true true false = refl
-    by true true false true = refl
-    by true true false false = refl
     by true false true true = refl
-    by true false true false = refl
-    by true false false true = refl
-    by true false false false = refl
-    by false true true true = refl
-    by false true true false = refl
-    by false true false true = refl
-    by false true false false = refl
-    by false false true true = refl
-    by false false true false = refl
-    by false false false true = refl
-    by false false false false = refl
+    by false held false holding = refl
+    by false held true false = refl
+    by false held true true = refl
 
 -- our token frame is the last block of our turn, after which none of the next has been sent
 token-sent : (station : Station) → isLast station ≡ eqb (blockSent station .block) 0

@@ -6,9 +6,10 @@ use Rattle.message.specs.Codes.{isMessage}
 use Rattle.message.specs.declared.Letter.{Letter}
 use Rattle.message_frames.specs.Frames.{wholeLength, frameOf, outputOf}
 use Rattle.message_frames.specs.ReadBack.{frame-written, code-read, is-marked, is-long, is-whole}
+use Rattle.message_rules.specs.Outcomes.{goes-ready}
 use Rattle.message_rules.specs.Rules.Again.{isToGo, letterGoing}
 use Rattle.message_rules.specs.Rules.Calls.{Both, askOf, letterAsked}
-use Rattle.message_rules.specs.Rules.Cycle.{isMeasured, cycleLets, isBeforeBlocks, isWritable, goes}
+use Rattle.message_rules.specs.Rules.Cycle.{isWritable, goes}
 use Rattle.message_rules.specs.Rules.Hearing.{isLetter}
 use Rattle.message_rules.specs.Rules.Posting.{mailRight}
 use Rattle.station.specs.Rules.Asking as asking
@@ -21,11 +22,7 @@ module _ (sender : Both) (memory turn output mail : List ℕ) (right : asking.le
   letter = letterGoing (sender .ring .own .number) (sender .messages)
 
   pub writable : isWritable (sender .messages .slot) ≡ true
-  writable =
-      let one = second (isBeforeBlocks (sender .ring) (sender .messages)) _ now in
-      let two = second (isMeasured (sender .ring .panel)) _ one in
-      let three = second (cycleLets (sender .ring .panel .gap .0) (sender .messages .allowed .0) (sender .messages .wentLast)) _ two in
-      second (isToGo (sender .messages .slot)) _ three
+  writable = second (isToGo (sender .messages .slot)) _ (goes-ready (sender .ring) (sender .messages) now)
 
   pub few : letter .octets ≤ 1024
   few = leb-true (letter .octets) 1024 (first (leb (letter .octets) 1024) _ writable)

@@ -1,7 +1,7 @@
 -- How often the message in the slot has gone, told from the calls alone; and that a message fails only after it went four times. Assumes nothing.
 use Rattle.laws.specs.Usual.{_≡_, refl, sym, ap, subst, _∙_, Bool, true, false, cond, _&&_, _||_, false≢true, List, [], _∷_, ℕ, _+_, min, _≤_, arith}
 use mathlib.Core.Logic.{_⊎_, inl, inr}
-use Rattle.laws.specs.Tests.{first, second}
+use Rattle.laws.specs.Tests.{first}
 use Rattle.message.specs.Codes.{toAll}
 use Rattle.message.specs.declared.Mail.{Mail}
 use Rattle.message.specs.declared.Mail.the-variants.{Nothing, Waiting, Unconfirmed, Confirmed, Sent, Failed}
@@ -10,7 +10,7 @@ use Rattle.message.specs.declared.Posted.{Posted}
 use Rattle.message.specs.declared.Posted.the-variants as posted
 use Rattle.message_rules.specs.Rules.Again.{isWaiting, isUnconfirmed, isDue, isToGo, numberAfter, slotGone, gone, letterGoing}
 use Rattle.message_rules.specs.Rules.Calls.{Both, neverBoth, Call, start, stop, tick, post, hear, ask, after, takes, Asking}
-use Rattle.message_rules.specs.Rules.Cycle.{isMeasured, cycleLets, isBeforeBlocks, goes}
+use Rattle.message_rules.specs.Rules.Cycle.{goes}
 use Rattle.message_rules.specs.Outcomes as outcomes
 use Rattle.message_rules.specs.Rules.Posting.{Posting, mailRight, postOf}
 use Rattle.message.specs.declared.Slot.{Slot}
@@ -152,10 +152,7 @@ told-asked : (both : Both) (memory turn output mail : List ℕ) {result : Asking
     (cond (mailRight mail && (asking.lentRight memory turn output && goes (both .ring) (both .messages))) (times + 1) times)
 told-asked both memory turn output mail times (outcomes.refuses wrong) told = rw wrong told
 told-asked both memory turn output mail times (outcomes.sends right lent now) told =
-    let one = second (isBeforeBlocks (both .ring) (both .messages)) _ now in
-    let two = second (isMeasured (both .ring .panel)) _ one in
-    let three = second (cycleLets (both .ring .panel .gap .0) (both .messages .allowed .0) (both .messages .wentLast)) _ two in
-    let go = first (isToGo (both .messages .slot)) _ three in
+    let go = first (isToGo (both .messages .slot)) _ (outcomes.goes-ready (both .ring) (both .messages) now) in
     rw (right, lent, now) (told-gone (both .messages) times told (to-go (both .messages .slot) (both .messages .slot .mail) refl go))
 told-asked both memory turn output mail times (outcomes.blocks right other) told =
     rw (right, other)

@@ -10,7 +10,7 @@ use Rattle.message_rules.specs.Outcomes as outcomes
 use Rattle.message_rules.specs.Ring.Reached.{Reachable, unstarted, called}
 use Rattle.message_rules.specs.Rules.Again.{isOpen, isToGo, slotGone}
 use Rattle.message_rules.specs.Rules.Calls.{Both, Call, start, stop, tick, post, hear, ask, after}
-use Rattle.message_rules.specs.Rules.Cycle.{isBeforeBlocks, isMeasured, cycleLets, isWritable, goes}
+use Rattle.message_rules.specs.Rules.Cycle.{isWritable, goes}
 use Rattle.message_rules.specs.Rules.Posting.{Posting}
 use Rattle.message_rules.specs.Rules.State.{Messages}
 use Rattle.message_rules.specs.Sending.Moves.{MailMoves, ends, handedIn, went, forgotten, mail-moves}
@@ -53,11 +53,7 @@ post-writable {message = message} {octets} (outcomes.waits right sendable free o
 
 -- a message that goes is the one that was there to go
 gone-writable : (station : Station) (messages : Messages) → goes station messages ≡ true → isWritable (slotGone messages) ≡ true
-gone-writable station messages now =
-    let one = second (isBeforeBlocks station messages) _ now in
-    let two = second (isMeasured (station .panel)) _ one in
-    let three = second (cycleLets (station .panel .gap .0) (messages .allowed .0) (messages .wentLast)) _ two in
-    second (isToGo (messages .slot)) _ three
+gone-writable station messages now = second (isToGo (messages .slot)) _ (outcomes.goes-ready station messages now)
 
 -- every call but handing in
 moved-writable : {before left : Both} {call : Call} → MailMoves before call left → handsIn call ≡ false → Writable (before .messages .slot)
