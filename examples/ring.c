@@ -1,7 +1,8 @@
 /*
  * Three FL-net stations on a made-up wire, in one process, from switching on to a token that goes round:
  *
- *     gcc -std=c11 -Wall -Wextra -Werror -Iinclude examples/ring.c target/staticlib/libflnet_station.a -o target/ring && target/ring
+ *     mkdir -p target
+ *     gcc -std=c11 -Wall -Wextra -Werror -Iinclude examples/ring.c crates/flnet_station/out/libflnet_station.a -o target/ring && target/ring
  */
 #include <stdio.h>
 #include <string.h>

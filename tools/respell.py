@@ -134,9 +134,9 @@ class Names:
         it = USE.match(line)
         if it:
             path = it.group(2)
-            if not is_ours(path):
-                return line
-            if it.group(3) is None:
+            if it.group(5):
+                return line[: it.start(5)] + respelled(it.group(5))
+            if not is_ours(path) or it.group(3) is None:
                 return line
             head = line[: line.index("{") + 1]
             return head + self.code(it.group(3), kept, ours) + "}" + it.group(4)

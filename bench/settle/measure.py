@@ -1,7 +1,7 @@
 #!/usr/bin/env python3
 """Measures `settle` beside a plain C program of the same output (plain.c), by turns in one run.
 
-    python3 bench/settle/measure.py target/bin/settle [ANOTHER ..]
+    python3 bench/settle/measure.py crates/settle/out/settle [ANOTHER ..]
 
 For each ring in rings/ it prints the least time of 101 runs of each program, less that of a program that does nothing, and its ratio to
 plain.c. It ends with 1 where an output differs.

@@ -27,9 +27,9 @@ fn check(output: &Output) {
 
 /// Builds the example under a name of its own, runs it, and compares what it prints.
 fn try_example(compiler: &str, standard: &str, language: &str) -> std::io::Result<()> {
-    let program = repository().join(format!("target/ring-example-{language}"));
+    let program = Path::new(env!("CARGO_TARGET_TMPDIR")).join(format!("ring-example-{language}"));
     let out = program.to_str().expect("a path in UTF-8");
-    let library = "target/staticlib/libflnet_station.a";
+    let library = "crates/flnet_station/out/libflnet_station.a";
     let sources = [
         "-x",
         language,

@@ -7,14 +7,14 @@ use std::path::PathBuf;
 use std::process::{Command, Stdio};
 
 fn settle(input: &[u8]) -> String {
-    let program = PathBuf::from(env!("CARGO_MANIFEST_DIR")).join("../target/bin/settle");
+    let program = PathBuf::from(env!("CARGO_MANIFEST_DIR")).join("../crates/settle/out/settle");
     let mut child = Command::new(&program)
         .stdin(Stdio::piped())
         .stdout(Stdio::piped())
         .spawn()
         .unwrap_or_else(|error| {
             panic!(
-                "{}: {error}; run `rt check settle` first",
+                "{}: {error}; run `rt run` in crates/settle first",
                 program.display()
             )
         });

@@ -1,5 +1,6 @@
 -- Paper 01, "Frame fields used": the two areas of the common memory.
-use Rattle.laws.specs.Usual.{Bool, ◌&&◌, List, [], ◌∷◌, ℕ, ◌+◌, ◌*◌, get_or, leb}
+use Rattle.std.specs.Prelude.{◌&&◌, ◌∷◌, ◌+◌, ◌*◌}
+use Rattle.laws.specs.Usual.{Bool, List, [], ℕ, get_or, leb}
 use Rattle.area.specs.declared.Area.{Area}
 use Rattle.area.specs.declared.Area.TheVariants.{One, Two}
 use Rattle.area.specs.declared.Areas.{Areas}

@@ -1,5 +1,6 @@
 -- Paper 01, "Starting and joining": when two stations' areas overlap.
-use Rattle.laws.specs.Usual.{Bool, ◌&&◌, ◌||◌, ◌+◌, ltb}
+use Rattle.std.specs.Prelude.{◌&&◌, ◌||◌, ◌+◌}
+use Rattle.laws.specs.Usual.{Bool, ltb}
 use Rattle.area.specs.declared.Areas.{Areas}
 use Rattle.area.specs.declared.Part.{Part}
 

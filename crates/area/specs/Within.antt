@@ -1,5 +1,6 @@
 -- A part that is in range has its octets inside its own area of the common memory. Assumes nothing.
-use Rattle.laws.specs.Usual.{◌≡◌, true, ◌+◌, ◌*◌, ◌≤◌, arith}
+use Rattle.std.specs.Prelude.{◌≡◌, ◌+◌, ◌*◌, ◌≤◌}
+use Rattle.laws.specs.Usual.{true, arith}
 use Rattle.std.proofs.Common.{leb-true}
 use Rattle.area.specs.Areas.{in_area, extent_of, span_of, memory_octets}
 use Rattle.area.specs.declared.Area.{Area}

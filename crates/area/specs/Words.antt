@@ -1,5 +1,6 @@
 -- Two parts of an area overlap just where some word belongs to both. Assumes nothing.
-use Rattle.laws.specs.Usual.{◌≡◌, true, ◌&&◌, ℕ, ◌+◌, ◌<◌, ◌≤◌, max, arith}
+use Rattle.std.specs.Prelude.{◌≡◌, ◌&&◌, ◌+◌, ◌<◌, ◌≤◌}
+use Rattle.laws.specs.Usual.{true, ℕ, max, arith}
 use Rattle.std.proofs.Common.{lt-ltb, ltb-true}
 use Rattle.laws.specs.Tests.{first, second}
 use Rattle.area.specs.Overlap.{filled, starts_before_end, parts_overlap}

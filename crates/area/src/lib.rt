@@ -1,15 +1,17 @@
 // The two areas of the common memory, and a station's parts of them.
+#![tactic(auto)]
+
 ghost use Rattle.std.specs.Prelude.{◌≡◌};
 ghost use Rattle.area.specs.Areas.{extent_of, place_of, in_area, in_range, span_of};
 
-#[derive(Drop)]
+#[derive(Clone, Copy)]
 pub enum Area {
     One,
     Two,
 }
 
 // An area's number of words, and the octet of the common memory at which it starts.
-#[derive(Drop)]
+#[derive(Clone, Copy)]
 pub struct Extent {
     pub words: usize,
     pub start: usize,
@@ -17,14 +19,14 @@ pub struct Extent {
 
 // What a station has of one area, in words.
 #[repr(C)]
-#[derive(Drop)]
+#[derive(Clone, Copy)]
 pub struct Part {
     pub address: u16,
     pub size: u16,
 }
 
 #[repr(C)]
-#[derive(Drop)]
+#[derive(Clone, Copy)]
 pub struct Areas {
     pub one: Part,
     pub two: Part,
@@ -34,7 +36,7 @@ pub struct Areas {
 pub const MEMORY_OCTETS: usize = 17408;
 
 // A run of octets of the common memory.
-#[derive(Drop)]
+#[derive(Clone, Copy)]
 pub struct Span {
     pub start: usize,
     pub length: usize,

@@ -1,4 +1,6 @@
 // Whether the parts of two stations overlap.
+#![tactic(auto)]
+
 ghost use Rattle.std.specs.Prelude.{◌≡◌};
 ghost use Rattle.area.specs.Overlap.{parts_overlap, areas_overlap};
 

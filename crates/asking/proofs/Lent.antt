@@ -1,5 +1,6 @@
 -- The lengths of buffers that are lent right. Assumes nothing.
-use Rattle.laws.specs.Usual.{◌≡◌, true, ◌&&◌, List, ℕ, ◌≤◌, length, eqb, leb}
+use Rattle.std.specs.Prelude.{◌≡◌, ◌&&◌, ◌≤◌}
+use Rattle.laws.specs.Usual.{true, List, ℕ, length, eqb, leb}
 use borrow.Author.Tests.{eqb-true, leb-true}
 use Rattle.area.specs.Areas.{memory_octets}
 use Rattle.laws.specs.Tests.{first, second}

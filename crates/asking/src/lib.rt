@@ -1,8 +1,10 @@
 // Asking for a frame.
+#![tactic(auto)]
 mod due;
 mod sent;
 
-ghost use Rattle.laws.specs.Usual.{◌≡◌, true, [], ◌≤◌, length, drop};
+ghost use Rattle.std.specs.Prelude.{◌≡◌, ◌≤◌};
+ghost use Rattle.laws.specs.Usual.{true, [], length, drop};
 ghost use Rattle.area.specs.Areas.{memory_octets};
 ghost use Rattle.block.specs.Blocks.{start_of};
 ghost use Rattle.frame_reading.specs.Reading.{data_size};
@@ -17,7 +19,7 @@ use sent::{block_sent, request_sent};
 use station::{Asked, Phase, Station};
 
 // A call: the state after it, and the answer.
-#[derive(Drop)]
+#[derive(Clone, Copy)]
 pub struct Asking {
     pub station: Station,
     pub answer: Asked,

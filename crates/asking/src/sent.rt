@@ -1,5 +1,6 @@
 // The state after a frame is sent.
-ghost use Rattle.laws.specs.Usual.{◌≡◌, true};
+ghost use Rattle.std.specs.Prelude.{◌≡◌};
+ghost use Rattle.laws.specs.Usual.{true};
 ghost use Rattle.station.specs.Rules.State.{request_sent};
 ghost use Rattle.station.specs.Rules.Asking.{is_placed, next_station, block_sent};
 

@@ -1,5 +1,6 @@
 -- A frame without data does not depend on the block that is lent. Assumes nothing.
-use Rattle.laws.specs.Usual.{◌≡◌, List, [], ℕ, arith, length}
+use Rattle.std.specs.Prelude.{◌≡◌}
+use Rattle.laws.specs.Usual.{List, [], ℕ, arith, length}
 use Rattle.std.proofs.Common.{le-leb}
 use Rattle.frame.specs.declared.Fields.{Fields}
 use Rattle.frame_reading.specs.Reading.{data_size}

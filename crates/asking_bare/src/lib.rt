@@ -1,5 +1,7 @@
 // The frames that we send without data: the fields of our request and of our trigger, and how they are written.
-ghost use Rattle.laws.specs.Usual.{◌≡◌, [], ◌≤◌, length};
+#![tactic(auto)]
+ghost use Rattle.std.specs.Prelude.{◌≡◌, ◌≤◌};
+ghost use Rattle.laws.specs.Usual.{[], length};
 ghost use Rattle.frame_reading.specs.Reading.{data_size};
 ghost use Rattle.frame_round_trip.specs.Sent.{request_fields, trigger_fields};
 ghost use Rattle.frame_writing.specs.Writing.{whole_length, output_of};

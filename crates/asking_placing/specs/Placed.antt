@@ -1,5 +1,6 @@
 -- A place inside our turn: its next block is one of at most seventeen. Assumes nothing.
-use Rattle.laws.specs.Usual.{◌≡◌, refl, Bool, true, false, ℕ, ◌+◌, ◌*◌, ◌≤◌, arith, eqb, leb, ltb}
+use Rattle.std.specs.Prelude.{◌≡◌, ◌+◌, ◌*◌, ◌≤◌}
+use Rattle.laws.specs.Usual.{refl, Bool, true, false, ℕ, arith, eqb, leb, ltb}
 use Rattle.std.proofs.Common.{ltb-true, eqb-true, le-leb}
 use Rattle.std.proofs.lemmas.Bool.{eqb-false, lt-leb}
 use Rattle.area.specs.Areas.{in_range, memory_octets}

@@ -1,6 +1,8 @@
 // Our place in our turn: whether there is a next block, whether it is the last, and what sending it changes. And whether the buffers that are lent
 // for sending it are right.
-ghost use Rattle.laws.specs.Usual.{◌≡◌, true, cond, ◌&&◌, ◌+◌, eqb};
+#![tactic(auto)]
+ghost use Rattle.std.specs.Prelude.{◌≡◌, ◌&&◌, ◌+◌};
+ghost use Rattle.laws.specs.Usual.{true, cond, eqb};
 ghost use Rattle.panel.specs.Panel.{after_taking};
 ghost use Rattle.station.specs.Rules.Asking.{placed_in, last_in, lent_right};
 
@@ -31,7 +33,7 @@ pub fn is_last(areas: Areas, block: u8) -> bool
     block::blocks(areas) <= block as usize + 1
 }
 
-#[derive(Drop)]
+#[derive(Clone, Copy)]
 pub struct Sent {
     pub view: u8,
     pub block: u8,

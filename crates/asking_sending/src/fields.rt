@@ -1,5 +1,6 @@
 // The fields of the next block's frame.
-ghost use Rattle.laws.specs.Usual.{◌≡◌, true, cond};
+ghost use Rattle.std.specs.Prelude.{◌≡◌};
+ghost use Rattle.laws.specs.Usual.{true, cond};
 ghost use Rattle.frame.specs.declared.Code.TheVariants.{Token, Cyclic};
 ghost use Rattle.station.specs.Rules.Asking.{placed_in, next_fields};
 

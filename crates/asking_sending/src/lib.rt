@@ -1,8 +1,10 @@
 // A participant's block: its frame. On the parts of a state that it depends on, so that no list is passed by value.
+#![tactic(auto)]
 mod fields;
 mod turn;
 
-ghost use Rattle.laws.specs.Usual.{◌≡◌, true, ◌+◌, ◌≤◌, length, drop};
+ghost use Rattle.std.specs.Prelude.{◌≡◌, ◌+◌, ◌≤◌};
+ghost use Rattle.laws.specs.Usual.{true, length, drop};
 ghost use Rattle.area.specs.Areas.{memory_octets};
 ghost use Rattle.block.specs.Blocks.{start_of};
 ghost use Rattle.frame_reading.specs.Reading.{data_size};

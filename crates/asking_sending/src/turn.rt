@@ -1,5 +1,6 @@
 // The copy that our blocks are sent from.
-ghost use Rattle.laws.specs.Usual.{◌≡◌, true, ◌+◌, ◌*◌, ◌≤◌, length};
+ghost use Rattle.std.specs.Prelude.{◌≡◌, ◌+◌, ◌*◌, ◌≤◌};
+ghost use Rattle.laws.specs.Usual.{true, length};
 ghost use Rattle.area.specs.Areas.{in_area, in_range, memory_octets, span_of};
 ghost use Rattle.station.specs.Rules.Asking.{turn_for};
 ghost use Rattle.copying.specs.Pasted.{pasted};

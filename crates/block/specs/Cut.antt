@@ -1,5 +1,6 @@
 -- How the blocks cut a turn. Assumes nothing.
-use Rattle.laws.specs.Usual.{◌≡◌, true, ℕ, ◌+◌, ◌<◌, ◌≤◌, arith}
+use Rattle.std.specs.Prelude.{◌≡◌, ◌+◌, ◌<◌, ◌≤◌}
+use Rattle.laws.specs.Usual.{true, ℕ, arith}
 use Rattle.std.proofs.Common.{leb-true}
 use Rattle.laws.specs.Tests.{first, second}
 use Rattle.area.specs.Areas.{in_area, in_range, memory_octets}

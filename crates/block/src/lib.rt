@@ -1,5 +1,8 @@
 // A turn's data and the blocks that they are cut into.
-ghost use Rattle.laws.specs.Usual.{◌≡◌, ◌-◌, min};
+#![tactic(auto)]
+
+ghost use Rattle.std.specs.Prelude.{◌≡◌, ◌-◌};
+ghost use Rattle.laws.specs.Usual.{min};
 ghost use Rattle.block.specs.Blocks.{octets_of, blocks_of, start_of, length_of};
 
 use area::Areas;

@@ -1,12 +1,9 @@
 -- The numbers lose nothing: each answer can be told from its numbers.
-use Rattle.laws.specs.Usual.{◌≡◌, refl, ap, cond, ℕ, eqb}
+use Rattle.std.specs.Prelude.{◌≡◌}
+use Rattle.laws.specs.Usual.{refl, ap, cond, ℕ, eqb}
 use Rattle.frame_refusals.specs.Refusals.{number_of}
 use Rattle.frame.specs.declared.Refusal.TheVariants.{Cut, Mark, Length, Code, Address, Taken, Area, Block, Stranger, NotDue, Buffer, Message, Waiting, Total, Number}
 use Rattle.station.specs.Rules.Answers.{data_number, token_number, data_of}
-use Rattle.station.specs.declared.Asked.TheVariants as asked
-use Rattle.station.specs.declared.Heard.TheVariants as heard
-use Rattle.station.specs.declared.Switched.TheVariants as switched
-use Rattle.station.specs.declared.Ticked.TheVariants as ticked
 use Rattle.frame.specs.declared.Refusal.{Refusal}
 use Rattle.station.specs.declared.Data.{Data}
 use Rattle.station.specs.declared.Data.TheVariants.{Kept, Written, Dropped, Repeat}
@@ -18,6 +15,10 @@ use Rattle.station.specs.declared.Asked.{Asked}
 use Rattle.station.specs.declared.Token.TheVariants.{None, PassedOn, OursNow, RivalPassedOver, RivalWon}
 use Rattle.boundary_answers.specs.Numbers.{switched_answer, ticked_answer, heard_answer, asked_answer}
 use Rattle.boundary_answers.specs.declared.Answer.{Answer}
+use Rattle.station.specs.declared.Asked.TheVariants as asked
+use Rattle.station.specs.declared.Heard.TheVariants as heard
+use Rattle.station.specs.declared.Switched.TheVariants as switched
+use Rattle.station.specs.declared.Ticked.TheVariants as ticked
 
 -- the case of each number
 abbrev refusal_of : ℕ → Refusal

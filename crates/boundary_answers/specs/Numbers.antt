@@ -2,10 +2,6 @@
 use Rattle.laws.specs.Usual.{ℕ}
 use Rattle.frame_refusals.specs.Refusals.{number_of}
 use Rattle.station.specs.Rules.Answers.{data_number, token_number, data_of}
-use Rattle.station.specs.declared.Asked.TheVariants as asked
-use Rattle.station.specs.declared.Heard.TheVariants as heard
-use Rattle.station.specs.declared.Switched.TheVariants as switched
-use Rattle.station.specs.declared.Ticked.TheVariants as ticked
 use Rattle.station.specs.Types.{Refusal}
 use Rattle.station.specs.declared.Token.{Token}
 use Rattle.station.specs.declared.Switched.{Switched}
@@ -14,6 +10,10 @@ use Rattle.station.specs.declared.Heard.{Heard}
 use Rattle.station.specs.declared.Asked.{Asked}
 use Rattle.boundary_answers.specs.declared.Answer.{Answer}
 use Rattle.boundary_answers.specs.declared.Route.{Route}
+use Rattle.station.specs.declared.Asked.TheVariants as asked
+use Rattle.station.specs.declared.Heard.TheVariants as heard
+use Rattle.station.specs.declared.Switched.TheVariants as switched
+use Rattle.station.specs.declared.Ticked.TheVariants as ticked
 
 -- no frame
 abbrev pub no_frame : Route

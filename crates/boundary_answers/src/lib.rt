@@ -1,4 +1,5 @@
 // The answers as numbers, for C.
+#![tactic(auto)]
 ghost use Rattle.std.specs.Prelude.{◌≡◌};
 ghost use Rattle.boundary_answers.specs.Numbers.{off_answer, done_answer, refused_answer, frame_answer};
 
@@ -6,7 +7,7 @@ use frame::Refusal;
 
 // Where a frame comes from and goes to, and its code.
 #[repr(C)]
-#[derive(Drop)]
+#[derive(Clone, Copy)]
 pub struct Route {
     pub code: u16,
     pub source: u8,
@@ -15,7 +16,7 @@ pub struct Route {
 
 // An answer of any call. What the word does not point to is 0.
 #[repr(C)]
-#[derive(Drop)]
+#[derive(Clone, Copy)]
 pub struct Answer {
     pub word: u8,
     pub refusal: u8,

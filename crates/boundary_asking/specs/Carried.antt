@@ -1,5 +1,6 @@
 -- What an asking leaves, of a core that was read out of the numbers, is what it leaves of the core that they hold. Assumes nothing.
-use Rattle.laws.specs.Usual.{◌≡◌, sym, ap, subst, ◌∙◌, List, ℕ}
+use Rattle.std.specs.Prelude.{◌≡◌}
+use Rattle.laws.specs.Usual.{sym, ap, subst, ◌∙◌, List, ℕ}
 use Rattle.boundary_answers.specs.declared.Answer.{Answer}
 use Rattle.boundary_core.specs.Crossing.{core_of}
 use Rattle.boundary_core.specs.declared.Core.{Core}

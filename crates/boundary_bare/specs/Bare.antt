@@ -1,5 +1,6 @@
 -- Our frames without data: our request in ring startup and in joining, our trigger in listening. Assumes nothing.
-use Rattle.laws.specs.Usual.{◌≡◌, refl, sym, ap, ◌∙◌, Bool, true, false, cond, ◌&&◌, ◌||◌, false≢true, List, [], ℕ, drop, eqb}
+use Rattle.std.specs.Prelude.{◌≡◌, ◌&&◌, ◌||◌}
+use Rattle.laws.specs.Usual.{refl, sym, ap, ◌∙◌, Bool, true, false, cond, false≢true, List, [], ℕ, drop, eqb}
 use Rattle.std.proofs.Common.{eqb-true}
 use Rattle.asking_bare.specs.Bare.{no_data}
 use Rattle.block.specs.Blocks.{start_of}

@@ -1,5 +1,7 @@
 // Our frames without data, with the list in its arrays: our request leaves it alone, and our trigger begins ring startup with an empty list.
-ghost use Rattle.laws.specs.Usual.{◌≡◌, [], ◌≤◌, length};
+#![tactic(auto)]
+ghost use Rattle.std.specs.Prelude.{◌≡◌, ◌≤◌};
+ghost use Rattle.laws.specs.Usual.{[], length};
 ghost use Rattle.boundary_answers.specs.Numbers.{frame_answer};
 ghost use Rattle.boundary_bare.specs.Bare.{bare_fields, after_bare};
 ghost use Rattle.boundary_core.specs.Crossing.{core_of};

@@ -1,6 +1,7 @@
 -- The state on both sides of the boundary: the station list is lent apart, and of the rest, the core, only the phase is changed: C has no enums
 -- of ours, so it crosses as its number.
-use Rattle.laws.specs.Usual.{◌≡◌, refl, ap, Bool, cond, List, ℕ, eqb}
+use Rattle.std.specs.Prelude.{◌≡◌}
+use Rattle.laws.specs.Usual.{refl, ap, Bool, cond, List, ℕ, eqb}
 use Rattle.boundary_lists.specs.Lists.{members_in}
 use Rattle.panel.specs.Panel.{figure_of}
 use Rattle.panel.specs.declared.Figure.TheVariants.{Nothing}

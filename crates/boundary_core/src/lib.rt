@@ -1,4 +1,5 @@
 // The state as numbers, for C.
+#![tactic(auto)]
 mod phase;
 
 pub use boundary_answers::{Answer, Route};
@@ -21,7 +22,7 @@ pub const PARTICIPATING: u8 = 4;
 // A station's state without its list, its phase as a number. It goes by value between the crates alone, where the compiler takes it apart;
 // C keeps it in numbers (`boundary_places`).
 #[repr(C)]
-#[derive(Drop)]
+#[derive(Clone, Copy)]
 pub struct Core {
     pub phase: u8,
     pub own: Settings,
@@ -37,7 +38,7 @@ pub struct Core {
 
 // A call's result: the state after it, and the answer.
 #[repr(C)]
-#[derive(Drop)]
+#[derive(Clone, Copy)]
 pub struct Outcome {
     pub core: Core,
     pub answer: Answer,

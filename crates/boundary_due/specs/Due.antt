@@ -1,5 +1,6 @@
 -- Whether a frame is due, told by the core alone, since no rule for it looks at the list, and why an asking is refused. Assumes nothing.
-use Rattle.laws.specs.Usual.{◌≡◌, refl, sym, Bool, true, false, cond, ◌&&◌, false≢true, List, ℕ}
+use Rattle.std.specs.Prelude.{◌≡◌, ◌&&◌}
+use Rattle.laws.specs.Usual.{refl, sym, Bool, true, false, cond, false≢true, List, ℕ}
 use Rattle.boundary_core.specs.Crossing.{phase_of, station_of}
 use Rattle.boundary_core.specs.declared.Core.{Core}
 use Rattle.frame.specs.declared.Refusal.TheVariants.{NotDue, Buffer}

@@ -1,5 +1,6 @@
 -- A tick that ends a wait before we participate, told by the core and the list. Assumes nothing.
-use Rattle.laws.specs.Usual.{◌≡◌, sym, ap, ◌∙◌, Bool, true, false, not, ◌||◌, leb}
+use Rattle.std.specs.Prelude.{◌≡◌, ◌||◌}
+use Rattle.laws.specs.Usual.{sym, ap, ◌∙◌, Bool, true, false, not, leb}
 use Rattle.std.proofs.lemmas.Bool.{not-false}
 use Rattle.boundary_answers.specs.Numbers.{ticked_answer}
 use Rattle.boundary_answers.specs.declared.Answer.{Answer}

@@ -1,5 +1,6 @@
 -- What a frame of each code does in each phase, but for a participant's cyclic frames, by what becomes of the list.
-use Rattle.laws.specs.Usual.{◌≡◌, refl}
+use Rattle.std.specs.Prelude.{◌≡◌}
+use Rattle.laws.specs.Usual.{refl}
 use Rattle.frame.specs.declared.Code.TheVariants.{Token, Cyclic, Request, Trigger}
 use Rattle.station.specs.Rules.Hearing.{requested, enters}
 use Rattle.station.specs.Rules.Starting.{joined_by}

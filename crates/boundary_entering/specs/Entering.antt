@@ -1,5 +1,6 @@
 -- Such a frame, heard: the core after it by the core before, and the list. Assumes nothing.
-use Rattle.laws.specs.Usual.{◌≡◌, refl, sym, ap, ◌∙◌, Bool, true, false, cond, not, ◌&&◌, ◌||◌, false≢true, List, ℕ, arith, length, eqb}
+use Rattle.std.specs.Prelude.{◌≡◌, ◌&&◌, ◌||◌}
+use Rattle.laws.specs.Usual.{refl, sym, ap, ◌∙◌, Bool, true, false, cond, not, false≢true, List, ℕ, arith, length, eqb}
 use Rattle.std.proofs.Common.{eqb-true}
 use Rattle.boundary_answers.specs.Numbers.{heard_answer}
 use Rattle.boundary_answers.specs.declared.Answer.{Answer}
@@ -10,7 +11,7 @@ use Rattle.boundary_refused.specs.Strange.{is_strange}
 use Rattle.boundary_refused.specs.Taken.{is_taken_by, participating_in}
 use Rattle.frame.specs.Codes.{is_token, is_cyclic}
 use Rattle.frame_reading.specs.Reading.{and_then, read_header_of, read_body_of, read_of}
-use Rattle.frame_round_trip.specs.Accepted.{bodied}
+use Rattle.frame_round_trip.proofs.Accepted.{bodied}
 use Rattle.laws.specs.Tests.{first}
 use Rattle.members.specs.Members.{no_members}
 use Rattle.station.specs.Rules.Hearing.{Hearing, lent_right, requested, enters, enters_answer, header_heard, hear_of}

@@ -1,5 +1,7 @@
 // A frame that is not refused, and that no participant takes as a cyclic one: most leave the list alone, and some list one station in place.
-ghost use Rattle.laws.specs.Usual.{◌≡◌, cond, ltb};
+#![tactic(auto)]
+ghost use Rattle.std.specs.Prelude.{◌≡◌};
+ghost use Rattle.laws.specs.Usual.{cond, ltb};
 ghost use Rattle.boundary_answers.specs.Numbers.{heard_answer};
 ghost use Rattle.boundary_core.specs.Crossing.{phase_of, core_of, station_in};
 ghost use Rattle.boundary_entering.specs.Effects.{effect_of};
@@ -20,7 +22,7 @@ use station::{Phase, Settings};
 
 // What becomes of the list: nothing, its station is listed by its request, joining learns its station, or a phase begins with an empty list:
 // ring startup, or joining, which learns from this frame.
-#[derive(Drop)]
+#[derive(Clone, Copy)]
 pub enum Effect {
     Nothing,
     Listed,

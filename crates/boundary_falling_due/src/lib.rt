@@ -1,5 +1,6 @@
 // Our request falls due, with the list in place.
-ghost use Rattle.laws.specs.Usual.{◌≡◌};
+#![tactic(auto)]
+ghost use Rattle.std.specs.Prelude.{◌≡◌};
 ghost use Rattle.boundary_falling_due.specs.Due.{owned_core};
 ghost use Rattle.boundary_lists.specs.Lists.{members_in};
 ghost use Rattle.station.specs.Rules.Starting.{own_due};

@@ -1,4 +1,5 @@
 // What the panel shows as numbers, for C.
+#![tactic(auto)]
 ghost use Rattle.std.specs.Prelude.{◌≡◌};
 ghost use Rattle.boundary_figure.specs.Figures.{gap_kind, kind_of, gap_ticks, ticks_of, figure_numbers};
 
@@ -7,7 +8,7 @@ use units::Ticks;
 
 // What the panel shows, and its text.
 #[repr(C)]
-#[derive(Drop)]
+#[derive(Clone, Copy)]
 pub struct Shown {
     pub kind: u8,
     pub ticks: u16,

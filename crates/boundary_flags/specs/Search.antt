@@ -1,5 +1,6 @@
 -- Laws for the search by the flags. Assumes nothing.
-use Rattle.laws.specs.Usual.{◌≡◌, refl, ap, ◌∙◌, Bool, true, false, cond, ◌||◌, List, [], ◌∷◌, ℕ, suc, ◌+◌, ◌<◌, ◌≤◌, min, arith, length, get_or, drop}
+use Rattle.std.specs.Prelude.{◌≡◌, ◌||◌, ◌∷◌, ◌+◌, ◌<◌, ◌≤◌}
+use Rattle.laws.specs.Usual.{refl, ap, ◌∙◌, Bool, true, false, cond, List, [], ℕ, suc, min, arith, length, get_or, drop}
 use Rattle.std.proofs.Common.{le_refl, length-drop}
 use Rattle.laws.specs.Tests.{neither_first, neither_second}
 use Rattle.members.specs.Members.{numbers_from}

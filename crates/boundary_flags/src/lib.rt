@@ -1,5 +1,8 @@
 // The first listed number from a number on, by the flags alone of a station list in arrays.
-ghost use Rattle.laws.specs.Usual.{◌≡◌, ◌+◌, ◌≤◌, min};
+#![tactic(auto)]
+
+ghost use Rattle.std.specs.Prelude.{◌≡◌, ◌+◌, ◌≤◌};
+ghost use Rattle.laws.specs.Usual.{min};
 ghost use Rattle.members_searching.specs.Search.{first_from, number_or};
 ghost use Rattle.boundary_lists.specs.Lists.{flagged, any_of_four, any_of_sixteen};
 

@@ -1,5 +1,6 @@
 -- What a hearing leaves, of a core that was read out of the numbers, is what it leaves of the core that they hold. Assumes nothing.
-use Rattle.laws.specs.Usual.{◌≡◌, sym, ap, ◌∙◌, true, false, List, ℕ}
+use Rattle.std.specs.Prelude.{◌≡◌}
+use Rattle.laws.specs.Usual.{sym, ap, ◌∙◌, true, false, List, ℕ}
 use Rattle.boundary_answers.specs.Numbers.{heard_answer}
 use Rattle.boundary_answers.specs.declared.Answer.{Answer}
 use Rattle.boundary_core.specs.Crossing.{phase_of, core_of, station_of}

@@ -1,6 +1,8 @@
 // A frame that was read: its effect on the core in numbers and on the list in arrays. The state that a function is given is what the numbers
 // hold.
-ghost use Rattle.laws.specs.Usual.{◌≡◌, true, false, get_or};
+#![tactic(auto)]
+ghost use Rattle.std.specs.Prelude.{◌≡◌};
+ghost use Rattle.laws.specs.Usual.{true, false, get_or};
 ghost use Rattle.boundary_answers.specs.Numbers.{heard_answer};
 ghost use Rattle.boundary_core.specs.Crossing.{phase_of, core_of, station_in};
 ghost use Rattle.boundary_lists.specs.Lists.{members_in};

@@ -1,5 +1,7 @@
 // An accepted cyclic frame heard by a participant, on its core alone.
-ghost use Rattle.laws.specs.Usual.{◌≡◌, true, length};
+#![tactic(auto)]
+ghost use Rattle.std.specs.Prelude.{◌≡◌};
+ghost use Rattle.laws.specs.Usual.{true, length};
 ghost use Rattle.frame.specs.Codes.{is_cyclic};
 ghost use Rattle.hearing_token.specs.Parts.{outcome_by};
 ghost use Rattle.boundary_answers.specs.Numbers.{cyclic_answer};

@@ -1,5 +1,7 @@
 // Hearing, on the core in numbers and the list in arrays. A refused frame touches neither, but for number 6 before we participate.
-ghost use Rattle.laws.specs.Usual.{◌≡◌, true, false, not, ◌&&◌};
+#![tactic(auto)]
+ghost use Rattle.std.specs.Prelude.{◌≡◌, ◌&&◌};
+ghost use Rattle.laws.specs.Usual.{true, false, not};
 ghost use Rattle.boundary_answers.specs.Numbers.{heard_answer};
 ghost use Rattle.boundary_core.specs.Crossing.{core_of, station_in};
 ghost use Rattle.boundary_lists.specs.Lists.{members_in};

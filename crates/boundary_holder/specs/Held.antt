@@ -1,6 +1,7 @@
 -- A participant that holds and sends a block, on its core; and that it is asked as its station is.
 -- A core's phase is a number, and 4 is that of participating, by which the proofs here go.
-use Rattle.laws.specs.Usual.{◌≡◌, Bool, true, cond, ◌&&◌, List, ℕ, ◌+◌, drop, eqb}
+use Rattle.std.specs.Prelude.{◌≡◌, ◌&&◌, ◌+◌}
+use Rattle.laws.specs.Usual.{Bool, true, cond, List, ℕ, drop, eqb}
 use Rattle.std.proofs.Common.{eqb-true}
 use Rattle.station.specs.Rules.Asking.{placed_in, last_in, next_fields, turn_for}
 use Rattle.block.specs.Blocks.{start_of}
@@ -8,7 +9,6 @@ use Rattle.laws.specs.Tests.{first, second}
 use Rattle.members.specs.Members.{next_after}
 use Rattle.panel.specs.Panel.{after_taking}
 use Rattle.station.specs.Rules.Answers.{phase_number}
-use Rattle.station.specs.Rules.Asking as asks
 use Rattle.station.specs.Rules.State.{no_ticks}
 use Rattle.station.specs.declared.Asked.TheVariants.{Octets}
 use Rattle.station.specs.Types.{Members}
@@ -16,6 +16,7 @@ use Rattle.station.specs.declared.Phase.TheVariants.{Participating}
 use Rattle.frame_writing.specs.Writing.{whole_length, output_of}
 use Rattle.boundary_core.specs.Crossing.{station_of, is_in}
 use Rattle.boundary_core.specs.declared.Core.{Core}
+use Rattle.station.specs.Rules.Asking as asks
 
 -- a participant that holds, with a block of its turn to send
 abbrev pub holds_block : Core → Bool

@@ -1,5 +1,7 @@
 // A participant's cyclic frame that is accepted, heard with the list in place.
-ghost use Rattle.laws.specs.Usual.{◌≡◌, true, false, get_or};
+#![tactic(auto)]
+ghost use Rattle.std.specs.Prelude.{◌≡◌};
+ghost use Rattle.laws.specs.Usual.{true, false, get_or};
 ghost use Rattle.boundary_core.specs.Crossing.{core_of, station_in};
 ghost use Rattle.boundary_told.specs.Told.{heard_told};
 ghost use Rattle.boundary_participant.specs.Quick.{is_accepted};

@@ -1,5 +1,7 @@
 // The calls that read the core in numbers and change nothing: how long ticks bring no news, and what the panel shows.
-ghost use Rattle.laws.specs.Usual.{◌≡◌, List, ℕ};
+#![tactic(auto)]
+ghost use Rattle.std.specs.Prelude.{◌≡◌};
+ghost use Rattle.laws.specs.Usual.{List, ℕ};
 ghost use Rattle.boundary_core.specs.Crossing.{station_in, figure_in};
 ghost use Rattle.boundary_figure.specs.Figures.{figure_numbers};
 ghost use Rattle.boundary_places.specs.Places.{core_in};

@@ -1,5 +1,7 @@
 // A station listed where the list stands, in its arrays: all listed entries are read, and one is written.
-ghost use Rattle.laws.specs.Usual.{◌≡◌, cond, ◌||◌};
+#![tactic(auto)]
+ghost use Rattle.std.specs.Prelude.{◌≡◌, ◌||◌};
+ghost use Rattle.laws.specs.Usual.{cond};
 ghost use Rattle.area.specs.Overlap.{areas_overlap};
 ghost use Rattle.boundary_lists.specs.Lists.{members_in};
 ghost use Rattle.members.specs.Listing.{bare, overlaps_other, listing};

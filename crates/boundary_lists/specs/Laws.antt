@@ -1,6 +1,6 @@
 -- The list that the arrays hold: its entries, its changes, next, and that it says all of the arrays. Assumes nothing.
-use Rattle.laws.specs.Usual.{◌≡◌, refl, sym, ap, ap₂, ◌∙◌, Bool, false, cond, List, [], ◌∷◌, ℕ, suc, ◌+◌, ◌*◌, ◌/◌, ◌%◌, ◌<◌, arith, length, get_or, set}
-use Rattle.std.specs.Prelude.{◌≢◌, zero}
+use Rattle.laws.specs.Usual.{refl, sym, ap, ap₂, ◌∙◌, Bool, false, cond, List, [], ℕ, suc, arith, length, get_or, set}
+use Rattle.std.specs.Prelude.{◌≡◌, ◌∷◌, ◌+◌, ◌*◌, ◌/◌, ◌%◌, ◌<◌, ◌≢◌, zero}
 use Rattle.std.proofs.Math.Decide.{ℕ_discrete}
 use Rattle.std.proofs.Common.{zero-add, length-set, ext_get_or, get_or-set_same, get_or-set_other}
 use Rattle.members.specs.Members.{nobody, entry_of, is_listed, with_entry, cleared, numbers_from, numbers_of, with_ours, next_after}

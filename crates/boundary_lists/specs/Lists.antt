@@ -1,6 +1,6 @@
 -- The station list in four arrays of numbers: whether a number is listed, its areas, its watch time and its misses.
-use Rattle.laws.specs.Usual.{◌≡◌, Bool, false, ◌||◌, List, [], ◌∷◌, ℕ, suc, ◌+◌, ◌*◌, length, get_or}
-use Rattle.std.specs.Prelude.{zero}
+use Rattle.laws.specs.Usual.{Bool, false, List, [], ℕ, suc, length, get_or}
+use Rattle.std.specs.Prelude.{◌≡◌, ◌||◌, ◌∷◌, ◌+◌, ◌*◌, zero}
 use Rattle.area.specs.declared.Areas.{Areas}
 use Rattle.members.specs.Members.{next_after}
 use Rattle.members.specs.declared.Entry.{Entry}

@@ -1,6 +1,9 @@
 // The station list in arrays of numbers, which a host can lend and a call can change in place. A number's flag, watch time and misses stand
 // at the number's place, its areas in the four places from four times the number on.
-ghost use Rattle.laws.specs.Usual.{◌≡◌, false, get_or, set};
+#![tactic(auto)]
+
+ghost use Rattle.std.specs.Prelude.{◌≡◌};
+ghost use Rattle.laws.specs.Usual.{false, get_or, set};
 ghost use Rattle.members.specs.Members.{entry_of};
 ghost use Rattle.boundary_lists.specs.Lists.{members_in};
 

@@ -1,6 +1,6 @@
 -- Ticks that only count, on a core: they do not touch the list. Assumes nothing.
-use Rattle.laws.specs.Usual.{◌≡◌, sym, ap, ◌∙◌, Bool, true, not, false≢true, ℕ, suc, ◌<◌, arith, eqb}
-use Rattle.std.specs.Prelude.{zero}
+use Rattle.laws.specs.Usual.{sym, ap, ◌∙◌, Bool, true, not, false≢true, ℕ, suc, arith, eqb}
+use Rattle.std.specs.Prelude.{◌≡◌, ◌<◌, zero}
 use Rattle.std.proofs.Common.{le_of_eq, eqb-true, eq-eqb}
 use Rattle.std.proofs.lemmas.Bool.{not-true}
 use Rattle.members.specs.Members.{no_members}

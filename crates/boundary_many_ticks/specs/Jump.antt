@@ -1,5 +1,6 @@
 -- Ticks jumped over, by the core and the flags of the list. Assumes nothing.
-use Rattle.laws.specs.Usual.{◌≡◌, ap₂, ◌∙◌, Bool, false, not, ◌&&◌, List, ℕ, ◌<◌, get_or, eqb}
+use Rattle.std.specs.Prelude.{◌≡◌, ◌&&◌, ◌<◌}
+use Rattle.laws.specs.Usual.{ap₂, ◌∙◌, Bool, false, not, List, ℕ, get_or, eqb}
 use Rattle.members.specs.declared.Members.{Members}
 use Rattle.station.specs.Rules.State.{is_participating}
 use Rattle.station.specs.Rules.Ticking.{watch_time}

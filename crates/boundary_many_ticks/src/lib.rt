@@ -1,5 +1,7 @@
 // Many ticks in one call: on the core alone where they only count, else jumped over or made with the list in place.
-ghost use Rattle.laws.specs.Usual.{◌≡◌, List, ℕ, ◌-◌, ◌≤◌};
+#![tactic(auto)]
+ghost use Rattle.std.specs.Prelude.{◌≡◌, ◌-◌, ◌≤◌};
+ghost use Rattle.laws.specs.Usual.{List, ℕ};
 ghost use Rattle.boundary_answers.specs.Numbers.{ticked_answer};
 ghost use Rattle.boundary_core.specs.Crossing.{core_of, station_in};
 ghost use Rattle.boundary_lists.specs.Lists.{members_in};
@@ -14,7 +16,7 @@ use ticking_calm::Counts;
 use units::Milliseconds;
 
 // A core, and the ticks that are still to come.
-#[derive(Drop)]
+#[derive(Clone, Copy)]
 struct Left {
     core: Core,
     ticks: u32,

@@ -1,5 +1,6 @@
 // Next in a station list in arrays, by its flags alone.
-ghost use Rattle.laws.specs.Usual.{◌≡◌};
+#![tactic(auto)]
+ghost use Rattle.std.specs.Prelude.{◌≡◌};
 ghost use Rattle.boundary_lists.specs.Lists.{next_in};
 
 // "'Next' is the next larger number in the list with ours, or the smallest after the largest."

@@ -1,5 +1,6 @@
 -- Numbers that are not listed are passed over when an overlap is looked for. Assumes nothing.
-use Rattle.laws.specs.Usual.{◌≡◌, refl, sym, ap, ◌∙◌, Bool, true, false, List, ℕ, suc, ◌+◌, ◌-◌, ◌<◌, ◌≤◌, min, arith, length, get_or, drop}
+use Rattle.std.specs.Prelude.{◌≡◌, ◌+◌, ◌-◌, ◌<◌, ◌≤◌}
+use Rattle.laws.specs.Usual.{refl, sym, ap, ◌∙◌, Bool, true, false, List, ℕ, suc, min, arith, length, get_or, drop}
 use Prim.Native.Nat.{zero}
 use Rattle.area.specs.declared.Areas.{Areas}
 use Rattle.boundary_flags.specs.Search.{first_skip, first_here, first_past}

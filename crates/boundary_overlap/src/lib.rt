@@ -1,5 +1,7 @@
 // Overlaps looked for where the station list stands, in its arrays, from one listed number to the next.
-ghost use Rattle.laws.specs.Usual.{◌≡◌, not, ◌&&◌};
+#![tactic(auto)]
+ghost use Rattle.std.specs.Prelude.{◌≡◌, ◌&&◌};
+ghost use Rattle.laws.specs.Usual.{not};
 ghost use Rattle.area.specs.Overlap.{areas_overlap};
 ghost use Rattle.boundary_lists.specs.Lists.{members_in};
 ghost use Rattle.members.specs.Listing.{overlaps_other, overlaps_listed};

@@ -1,6 +1,7 @@
 -- A participant's calls on its core, where the list is left as it is but for one station's misses; and that they are the calls of its station.
 -- A core's phase is a number, and 4 is that of participating, by which the proofs here go.
-use Rattle.laws.specs.Usual.{◌≡◌, Bool, true, false, cond, not, ◌&&◌, ◌||◌, List, ℕ, arith, length, eqb}
+use Rattle.std.specs.Prelude.{◌≡◌, ◌&&◌, ◌||◌}
+use Rattle.laws.specs.Usual.{Bool, true, false, cond, not, List, ℕ, arith, length, eqb}
 use Rattle.std.proofs.Common.{eqb-true}
 use Rattle.std.proofs.lemmas.Bool.{not-true}
 use Rattle.frame.specs.Codes.{is_token, is_cyclic}
@@ -9,8 +10,7 @@ use Rattle.laws.specs.Tests.{first, second}
 use Rattle.members.specs.Members.{is_listed}
 use Rattle.panel.specs.Panel.{after_taking}
 use Rattle.frame_reading.specs.Reading.{and_then, read_of, read_header_of, read_body_of, data_of}
-use Rattle.frame_reading.specs.declared.Read.TheVariants as reads
-use Rattle.frame_round_trip.specs.Accepted.{bodied}
+use Rattle.frame_round_trip.proofs.Accepted.{bodied}
 use Rattle.station.specs.Rules.Answers.{phase_number}
 use Rattle.station.specs.Rules.Data.{gathered}
 use Rattle.station.specs.Rules.Hearing.{Hearing, hear_of, header_heard, participant_heard, lent_right}
@@ -21,6 +21,7 @@ use Rattle.station.specs.declared.Phase.TheVariants.{Participating}
 use Rattle.station.specs.declared.Gathering.{Gathering}
 use Rattle.boundary_core.specs.Crossing.{station_of, is_in}
 use Rattle.boundary_core.specs.declared.Core.{Core}
+use Rattle.frame_reading.specs.declared.Read.TheVariants as reads
 
 -- a participant whose watch restarts, with another view and gathering
 abbrev pub restarted_core : Core → ℕ → Gathering → Core

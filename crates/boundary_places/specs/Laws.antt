@@ -1,6 +1,6 @@
 -- What is put into the numbers is what they hold then, and a core that they hold already changes none of them. Assumes nothing.
-use Rattle.laws.specs.Usual.{◌≡◌, refl, sym, ap, ap₂, ◌∙◌, Bool, true, false, cond, List, ◌∷◌, ℕ, suc, ◌<◌, ◌≤◌, arith, length, get_or, eqb, leb}
-use Rattle.std.specs.Prelude.{zero}
+use Rattle.laws.specs.Usual.{refl, sym, ap, ap₂, ◌∙◌, Bool, true, false, cond, List, ℕ, suc, arith, length, get_or, eqb, leb}
+use Rattle.std.specs.Prelude.{◌≡◌, ◌∷◌, ◌<◌, ◌≤◌, zero}
 use Rattle.std.proofs.Common.{eq-eqb, le-leb, eqb-true, leb-true}
 use Rattle.boundary_core.specs.Crossing.{phase_of, station_of, core_of}
 use Rattle.boundary_core.specs.declared.Core.{Core}

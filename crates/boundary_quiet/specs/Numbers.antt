@@ -1,12 +1,13 @@
 -- The quiet ticks as they cross to C.
-use Rattle.laws.specs.Usual.{◌≡◌, Bool, true, false, List, ℕ}
+use Rattle.std.specs.Prelude.{◌≡◌}
+use Rattle.laws.specs.Usual.{Bool, true, false, List, ℕ}
 use Rattle.boundary_core.specs.Crossing.{phase_of, station_in}
 use Rattle.boundary_core.specs.declared.Core.{Core}
 use Rattle.boundary_lists.specs.Laws.{next_in_lem}
 use Rattle.boundary_lists.specs.Lists.{next_in}
-use Rattle.ticking_quiet.specs.Quiet as quiet
 use Rattle.station.specs.declared.Phase.{Phase}
 use Rattle.boundary_quiet.specs.declared.Quiet.{Quiet}
+use Rattle.ticking_quiet.specs.Quiet as quiet
 
 -- where no tick ever brings news, the number is 0
 abbrev pub quiet_numbers : quiet.Quiet → Quiet

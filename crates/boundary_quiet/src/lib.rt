@@ -1,5 +1,7 @@
 // How many ticks are quiet, by the core and two of the list's arrays.
-ghost use Rattle.laws.specs.Usual.{◌≡◌, cond, List, ℕ};
+#![tactic(auto)]
+ghost use Rattle.std.specs.Prelude.{◌≡◌};
+ghost use Rattle.laws.specs.Usual.{cond, List, ℕ};
 ghost use Rattle.boundary_core.specs.Crossing.{station_in};
 ghost use Rattle.ticking_quiet.specs.Quiet.{never, till, quiet_of};
 ghost use Rattle.boundary_quiet.specs.Numbers.{quiet_numbers};
@@ -9,7 +11,7 @@ use station::Phase;
 
 // Whether news ever comes with no call between, and the ticks that come before the one that brings it.
 #[repr(C)]
-#[derive(Drop)]
+#[derive(Clone, Copy)]
 pub struct Quiet {
     pub ends: bool,
     pub ticks: u32,

@@ -1,5 +1,7 @@
 // The core taken out of the numbers that C keeps.
-ghost use Rattle.laws.specs.Usual.{◌≡◌, length};
+#![tactic(auto)]
+ghost use Rattle.std.specs.Prelude.{◌≡◌};
+ghost use Rattle.laws.specs.Usual.{length};
 ghost use Rattle.boundary_places.specs.Places.{phase_in, settings_in, gathering_in, panel_in, core_in};
 
 use area::{Areas, Part};

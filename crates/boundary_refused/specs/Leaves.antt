@@ -1,5 +1,6 @@
 -- What a frame leaves that alters neither buffer: the core, the answer, both buffers and the list. Assumes nothing.
-use Rattle.laws.specs.Usual.{◌≡◌, sym, ap, ◌∙◌, List, ℕ}
+use Rattle.std.specs.Prelude.{◌≡◌}
+use Rattle.laws.specs.Usual.{sym, ap, ◌∙◌, List, ℕ}
 use Rattle.boundary_answers.specs.Numbers.{heard_answer}
 use Rattle.boundary_answers.specs.declared.Answer.{Answer}
 use Rattle.boundary_core.specs.Crossing.{core_of}

@@ -1,5 +1,6 @@
 -- Number 9 at a participant, told by the core and by whether the frame's source and destination are listed. Assumes nothing.
-use Rattle.laws.specs.Usual.{◌≡◌, Bool, true, false, not, ◌&&◌, ◌||◌, List, ℕ, arith, length, eqb}
+use Rattle.std.specs.Prelude.{◌≡◌, ◌&&◌, ◌||◌}
+use Rattle.laws.specs.Usual.{Bool, true, false, not, List, ℕ, arith, length, eqb}
 use Rattle.std.proofs.Common.{eqb-true}
 use Rattle.std.proofs.lemmas.Bool.{not-true}
 use Rattle.boundary_core.specs.Crossing.{station_of, is_in}
@@ -7,7 +8,7 @@ use Rattle.boundary_core.specs.declared.Core.{Core}
 use Rattle.frame.specs.Codes.{is_token, is_cyclic}
 use Rattle.frame.specs.declared.Refusal.TheVariants.{Stranger}
 use Rattle.frame_reading.specs.Reading.{and_then, read_header_of, read_body_of, read_of}
-use Rattle.frame_round_trip.specs.Accepted.{bodied}
+use Rattle.frame_round_trip.proofs.Accepted.{bodied}
 use Rattle.laws.specs.Tests.{first, second}
 use Rattle.members.specs.Members.{is_listed}
 use Rattle.station.specs.Rules.Hearing.{lent_right, refused, header_heard, hear_of}

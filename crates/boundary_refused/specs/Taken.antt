@@ -1,5 +1,6 @@
 -- A frame whose header was read, and which number 6 refuses, or 7, 14, 15 or 8. Assumes nothing.
-use Rattle.laws.specs.Usual.{◌≡◌, refl, ◌∙◌, Bool, true, false, cond, not, ◌&&◌, List, ℕ, length, eqb}
+use Rattle.std.specs.Prelude.{◌≡◌, ◌&&◌}
+use Rattle.laws.specs.Usual.{refl, ◌∙◌, Bool, true, false, cond, not, List, ℕ, length, eqb}
 use Rattle.std.proofs.Common.{ne_eqb}
 use Rattle.std.proofs.Math.Decide.{ℕ_discrete}
 use Rattle.boundary_core.specs.Crossing.{phase_of, station_of}

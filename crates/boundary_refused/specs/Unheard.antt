@@ -1,5 +1,6 @@
 -- A frame whose header is refused (11, then 1 to 5): hearing it looks neither at the state nor at the list. Assumes nothing.
-use Rattle.laws.specs.Usual.{◌≡◌, refl, Bool, true, false, cond, List, ℕ, length}
+use Rattle.std.specs.Prelude.{◌≡◌}
+use Rattle.laws.specs.Usual.{refl, Bool, true, false, cond, List, ℕ, length}
 use Rattle.frame.specs.declared.Refusal.TheVariants.{Buffer}
 use Rattle.frame_reading.specs.Reading.{read_header_of, read_body_of, read_of}
 use Rattle.station.specs.Rules.Hearing.{lent_right, refused, header_heard, hear_of}

@@ -1,5 +1,6 @@
 -- Our request sent in ring startup or in joining: the core after it by the core before; the list stays. Assumes nothing.
-use Rattle.laws.specs.Usual.{◌≡◌, refl, sym, ap, ◌∙◌, Bool, true, false, cond, ◌||◌, false≢true, List, [], ℕ, drop, eqb}
+use Rattle.std.specs.Prelude.{◌≡◌, ◌||◌}
+use Rattle.laws.specs.Usual.{refl, sym, ap, ◌∙◌, Bool, true, false, cond, false≢true, List, [], ℕ, drop, eqb}
 use Rattle.std.proofs.Common.{eqb-true}
 use Rattle.asking_bare.specs.Bare.{no_data}
 use Rattle.block.specs.Blocks.{start_of}

@@ -1,5 +1,7 @@
 // Our request sent in ring startup or in joining, on the core alone.
-ghost use Rattle.laws.specs.Usual.{◌≡◌, [], ◌≤◌, length};
+#![tactic(auto)]
+ghost use Rattle.std.specs.Prelude.{◌≡◌, ◌≤◌};
+ghost use Rattle.laws.specs.Usual.{[], length};
 ghost use Rattle.boundary_answers.specs.Numbers.{frame_answer};
 ghost use Rattle.boundary_requesting.specs.Requesting.{is_requesting, request_of, requesting_core};
 ghost use Rattle.frame_writing.specs.Writing.{whole_length, output_of};

@@ -1,5 +1,7 @@
 // A holder's block, sent with the list in place.
-ghost use Rattle.laws.specs.Usual.{◌≡◌, true};
+#![tactic(auto)]
+ghost use Rattle.std.specs.Prelude.{◌≡◌};
+ghost use Rattle.laws.specs.Usual.{true};
 ghost use Rattle.boundary_core.specs.Crossing.{core_of, station_in};
 ghost use Rattle.boundary_told.specs.Told.{asked_told};
 ghost use Rattle.boundary_holder.specs.Held.{holds_block};

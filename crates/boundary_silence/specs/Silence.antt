@@ -1,5 +1,6 @@
 -- A tick that ends a participant's watch, told by the core and by the entry of the station in view. Assumes nothing.
-use Rattle.laws.specs.Usual.{◌≡◌, refl, sym, ap, ◌∙◌, Bool, true, false, cond, not, ◌&&◌, ℕ, ◌+◌, leb}
+use Rattle.std.specs.Prelude.{◌≡◌, ◌&&◌, ◌+◌}
+use Rattle.laws.specs.Usual.{refl, sym, ap, ◌∙◌, Bool, true, false, cond, not, ℕ, leb}
 use Rattle.std.proofs.lemmas.Bool.{not-false}
 use Rattle.boundary_core.specs.Crossing.{station_of, core_of}
 use Rattle.boundary_core.specs.declared.Core.{Core}

@@ -1,5 +1,7 @@
 // A tick that ends a participant's watch, with the list in place: the station in view gets a miss, or is struck.
-ghost use Rattle.laws.specs.Usual.{◌≡◌, false};
+#![tactic(auto)]
+ghost use Rattle.std.specs.Prelude.{◌≡◌};
+ghost use Rattle.laws.specs.Usual.{false};
 ghost use Rattle.boundary_answers.specs.Numbers.{ticked_answer};
 ghost use Rattle.boundary_core.specs.Crossing.{core_of, station_in};
 ghost use Rattle.boundary_lists.specs.Lists.{members_in};

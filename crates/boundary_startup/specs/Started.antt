@@ -1,5 +1,6 @@
 -- The end of ring startup by the first listed number, which the flags alone tell. Assumes nothing.
-use Rattle.laws.specs.Usual.{◌≡◌, refl, sym, ap, ◌∙◌, Bool, List, [], ◌∷◌, ℕ, ◌<◌, ◌≤◌, min, arith}
+use Rattle.std.specs.Prelude.{◌≡◌, ◌∷◌, ◌<◌, ◌≤◌}
+use Rattle.laws.specs.Usual.{refl, sym, ap, ◌∙◌, Bool, List, [], ℕ, min, arith}
 use Rattle.boundary_flags.specs.Search.{found_none}
 use Rattle.boundary_lists.specs.Laws.{numbers_in}
 use Rattle.boundary_lists.specs.Lists.{members_in, flagged}

@@ -1,6 +1,6 @@
 -- An entry stored in the arrays is stored in the list that they hold, and arrays of nothing hold none. Assumes nothing.
-use Rattle.laws.specs.Usual.{◌≡◌, refl, ap, ap₂, Bool, false, List, ◌∷◌, ℕ, suc, ◌+◌, ◌*◌, ◌<◌, ◌≤◌, arith, length, get_or, set, replicate}
-use Rattle.std.specs.Prelude.{◌≢◌, zero}
+use Rattle.laws.specs.Usual.{refl, ap, ap₂, Bool, false, List, ℕ, suc, arith, length, get_or, set, replicate}
+use Rattle.std.specs.Prelude.{◌≡◌, ◌∷◌, ◌+◌, ◌*◌, ◌<◌, ◌≤◌, ◌≢◌, zero}
 use Rattle.std.proofs.Common.{length-set, get_or-set_same, get_or-set_other}
 use Rattle.area.specs.declared.Areas.{Areas}
 use Rattle.members.specs.Members.{nobody, no_members, with_entry}

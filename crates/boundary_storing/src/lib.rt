@@ -1,4 +1,6 @@
 // An entry, and an empty list, stored in the arrays of numbers that hold a station list.
+#![tactic(auto)]
+
 ghost use Rattle.std.specs.Prelude.{◌≡◌};
 ghost use Rattle.boundary_lists.specs.Lists.{members_in, Whole};
 ghost use Rattle.members.specs.Members.{no_members, with_entry};

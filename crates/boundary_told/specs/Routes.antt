@@ -1,5 +1,6 @@
 -- What is told is that of the frame. Assumes nothing.
-use Rattle.laws.specs.Usual.{◌≡◌, refl, sym, ap, ap₂, ◌∙◌, Bool, true, false, cond, List, ℕ, ◌<◌, ◌≤◌, arith, length, take, get_or, eqb, leb}
+use Rattle.std.specs.Prelude.{◌≡◌, ◌<◌, ◌≤◌}
+use Rattle.laws.specs.Usual.{refl, sym, ap, ap₂, ◌∙◌, Bool, true, false, cond, List, ℕ, arith, length, take, get_or, eqb, leb}
 use Rattle.std.proofs.Common.{eqb-true, leb-true, length-take, get_or-take}
 use Rattle.laws.specs.Tests.{first}
 use Rattle.frame.specs.Codes.{code_number, code_of}
@@ -13,15 +14,15 @@ use Rattle.frame_reading.specs.Reading.{and_then, read_header_of, read_body_of, 
 use Rattle.frame_reading.specs.declared.Read.TheVariants.{Frame, Refused}
 use Rattle.frame.specs.declared.Refusal.{Refusal}
 use Rattle.frame_reading.specs.declared.Read.{Read}
-use Rattle.frame_round_trip.specs.Accepted.{accepted as passed}
+use Rattle.frame_round_trip.proofs.Accepted.{accepted as passed}
 use Rattle.station.specs.Rules.Asking.{Asking}
 use Rattle.station.specs.declared.Heard.{Heard}
-use Rattle.station.specs.declared.Heard.TheVariants as answers
 use Rattle.station.specs.declared.Asked.{Asked}
-use Rattle.station.specs.declared.Asked.TheVariants as asked
 use Rattle.boundary_answers.specs.Numbers.{no_frame, heard_answer, asked_answer}
 use Rattle.boundary_answers.specs.declared.Answer.{Answer}
 use Rattle.boundary_told.specs.Told.{route_of, route_read, route_in, asked_told, written_told, with_frame, heard_told}
+use Rattle.station.specs.declared.Heard.TheVariants as answers
+use Rattle.station.specs.declared.Asked.TheVariants as asked
 
 -- an asking's answer, by its numbers
 told_by : (output : List ℕ) (answer : Asked) → written_told output (asked_answer answer) ≡ asked_told output answer

@@ -9,11 +9,11 @@ use Rattle.frame_reading.specs.Reading.{read_of}
 use Rattle.frame_reading.specs.declared.Read.{Read}
 use Rattle.frame_reading.specs.declared.Read.TheVariants.{Frame, Refused}
 use Rattle.station.specs.declared.Asked.{Asked}
-use Rattle.station.specs.declared.Asked.TheVariants as asked
 use Rattle.station.specs.declared.Heard.{Heard}
 use Rattle.boundary_answers.specs.Numbers.{no_frame, heard_answer, frame_answer, refused_answer}
 use Rattle.boundary_answers.specs.declared.Answer.{Answer}
 use Rattle.boundary_answers.specs.declared.Route.{Route}
+use Rattle.station.specs.declared.Asked.TheVariants as asked
 
 -- of a frame's fields
 abbrev pub route_of : Fields → Route

@@ -1,5 +1,6 @@
 -- A tick that only counts is the tick of its station. Assumes nothing.
-use Rattle.laws.specs.Usual.{◌≡◌, refl, Bool, true, false, not, ◌&&◌, ◌||◌, eqb, leb}
+use Rattle.std.specs.Prelude.{◌≡◌, ◌&&◌, ◌||◌}
+use Rattle.laws.specs.Usual.{refl, Bool, true, false, not, eqb, leb}
 use Rattle.std.proofs.Common.{eqb-true}
 use Rattle.std.proofs.lemmas.Bool.{not-true}
 use Rattle.laws.specs.Tests.{first, second, neither_first, neither_second}

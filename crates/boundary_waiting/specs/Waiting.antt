@@ -1,6 +1,7 @@
 -- The ticks of a station that does not participate yet, on its core: those that only count, which are all but the ones that end a wait. A core's
 -- phase is a number, by which the proofs go: 1 listening, 2 ring startup, 3 joining.
-use Rattle.laws.specs.Usual.{Bool, cond, not, ◌&&◌, ◌||◌, ℕ, eqb, leb}
+use Rattle.std.specs.Prelude.{◌&&◌, ◌||◌}
+use Rattle.laws.specs.Usual.{Bool, cond, not, ℕ, eqb, leb}
 use Rattle.station.specs.Rules.Answers.{phase_number}
 use Rattle.station.specs.Rules.Ticking.{later, wait_ends, waited_then}
 use Rattle.station.specs.Rules.Waits.{detection_wait, acceptance_time, listening_time}

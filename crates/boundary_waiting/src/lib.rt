@@ -1,5 +1,7 @@
 // The ticks of a station that does not participate yet, on its core alone, where they only count.
-ghost use Rattle.laws.specs.Usual.{◌≡◌, cond};
+#![tactic(auto)]
+ghost use Rattle.std.specs.Prelude.{◌≡◌};
+ghost use Rattle.laws.specs.Usual.{cond};
 ghost use Rattle.boundary_core.specs.Crossing.{is_in};
 ghost use Rattle.station.specs.declared.Phase.TheVariants.{Joining};
 ghost use Rattle.boundary_waiting.specs.Waiting.{limit_of, waited_joining, startup_ends, joining_ends, is_waiting, waited_core};

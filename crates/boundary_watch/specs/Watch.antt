@@ -1,5 +1,6 @@
 -- A participant's tick that does not end its watch, on its core, and that it is the tick of its station. Assumes nothing.
-use Rattle.laws.specs.Usual.{◌≡◌, ap, ◌∙◌, Bool, true, not, ◌&&◌, ◌+◌, eqb, leb}
+use Rattle.std.specs.Prelude.{◌≡◌, ◌&&◌, ◌+◌}
+use Rattle.laws.specs.Usual.{ap, ◌∙◌, Bool, true, not, eqb, leb}
 use Rattle.std.proofs.Common.{eqb-true}
 use Rattle.std.proofs.lemmas.Bool.{not-true}
 use Rattle.boundary_core.specs.Crossing.{station_of, core_of, is_in}

@@ -1,5 +1,7 @@
 // A participant's watch, on its core: the time that it runs for, by two of the list's arrays, and a tick that does not end it.
-ghost use Rattle.laws.specs.Usual.{◌≡◌, List, ℕ};
+#![tactic(auto)]
+ghost use Rattle.std.specs.Prelude.{◌≡◌};
+ghost use Rattle.laws.specs.Usual.{List, ℕ};
 ghost use Rattle.boundary_core.specs.Crossing.{station_in};
 ghost use Rattle.station.specs.Rules.Ticking.{watch_time};
 ghost use Rattle.boundary_watch.specs.Watch.{is_quiet, quiet_after};

@@ -1,12 +1,12 @@
 -- Paper 01, "Marked cases (*) and others": the marked cases are one table, held against the rules by one check.
-use Rattle.laws.specs.Usual.{◌≡◌, refl, Bool, true, false, cond, ◌&&◌, List, [], ◌∷◌, ℕ, ◌-◌, min, replicate, eqb}
+use Rattle.std.specs.Prelude.{◌≡◌, ◌&&◌, ◌∷◌, ◌-◌}
+use Rattle.laws.specs.Usual.{refl, Bool, true, false, cond, List, [], ℕ, min, replicate, eqb}
 use Rattle.block.specs.Blocks.{blocks_of, length_of}
 use Rattle.frame_refusals.specs.Refusals.{number_of}
 use Rattle.frame.specs.declared.Code.TheVariants.{Token, Cyclic, Request}
 use Rattle.members.specs.Listing.{listing}
 use Rattle.members.specs.Members.{no_members, next_after}
 use Rattle.frame_reading.specs.Reading.{fields_of, read_of}
-use Rattle.frame_reading.specs.declared.Read.TheVariants as reads
 use Rattle.settle_input.specs.Input.{lines_of, entry_of, forms_from}
 use Rattle.settle_rest.specs.Whole.{step_lines, output_of}
 use Rattle.settle_run.specs.Run.{run_from}
@@ -17,9 +17,10 @@ use Rattle.station.specs.Types.{Areas, Part, Code, Read, Members}
 use Rattle.station.specs.declared.Settings.{Settings}
 use Rattle.station.specs.declared.Station.{Station}
 use Rattle.station.specs.declared.Switched.{Switched}
-use Rattle.station.specs.declared.Switched.TheVariants as switches
 use Rattle.text.specs.Decimal.{decimal_at}
 use Rattle.frame_writing.specs.Writing.{no_areas, no_watch, fixed_for, header_of, frame_of}
+use Rattle.frame_reading.specs.declared.Read.TheVariants as reads
+use Rattle.station.specs.declared.Switched.TheVariants as switches
 
 -- a marked case, with what the paper says of it
 pub data Case : Type 0 where

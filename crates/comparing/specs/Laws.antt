@@ -1,5 +1,6 @@
 -- Laws of comparing two lists. Assumes nothing.
-use Rattle.laws.specs.Usual.{◌≡◌, refl, ap, ap₂, Bool, true, false, ◌&&◌, false≢true, List, [], ◌∷◌, ℕ, ◌+◌, ◌<◌, ◌≤◌, length, get_or, drop, eqb}
+use Rattle.std.specs.Prelude.{◌≡◌, ◌&&◌, ◌∷◌, ◌+◌, ◌<◌, ◌≤◌}
+use Rattle.laws.specs.Usual.{refl, ap, ap₂, Bool, true, false, false≢true, List, [], ℕ, length, get_or, drop, eqb}
 use Rattle.std.proofs.Common.{drop_of_length-le, drop-cons, add-one, eqb-true, eq-eqb}
 use Rattle.laws.specs.Tests.{first, second}
 use Rattle.comparing.specs.Same.{same}

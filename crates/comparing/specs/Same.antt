@@ -1,5 +1,6 @@
 -- Two lists of octets compared.
-use Rattle.laws.specs.Usual.{Bool, true, false, ◌&&◌, List, [], ◌∷◌, ℕ, eqb}
+use Rattle.std.specs.Prelude.{◌&&◌, ◌∷◌}
+use Rattle.laws.specs.Usual.{Bool, true, false, List, [], ℕ, eqb}
 
 -- whether they have the same octets, and as many
 abbrev pub same : List ℕ → List ℕ → Bool

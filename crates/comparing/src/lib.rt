@@ -1,5 +1,7 @@
 // Whether two parts of buffers have the same octets.
-ghost use Rattle.laws.specs.Usual.{◌≡◌};
+#![tactic(auto)]
+
+ghost use Rattle.std.specs.Prelude.{◌≡◌};
 ghost use Rattle.comparing.specs.Same.{same};
 
 // Looks at every octet, also behind one that differs: without a way out of the loop the compiler compares many at once.

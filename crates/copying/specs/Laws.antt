@@ -1,5 +1,6 @@
 -- Laws of putting one list into another. Assumes nothing.
-use Rattle.laws.specs.Usual.{◌≡◌, sym, ap, ap₂, ◌∙◌, List, [], ◌∷◌, ◌++◌, ℕ, suc, ◌+◌, ◌-◌, ◌<◌, ◌≤◌, arith, length, get_or, take, drop, set}
+use Rattle.std.specs.Prelude.{◌≡◌, ◌∷◌, ◌++◌, ◌+◌, ◌-◌, ◌<◌, ◌≤◌}
+use Rattle.laws.specs.Usual.{sym, ap, ap₂, ◌∙◌, List, [], ℕ, suc, arith, length, get_or, take, drop, set}
 use Rattle.std.proofs.Common.{append_assoc, append-nil, add-one, zero-add, add-zero, take-append-drop, length-append, length-take, length-drop, drop_of_length-le, drop-drop, drop-cons, take_all, take_at, take-add, length-take-le}
 use Rattle.std.proofs.Math.Seq.{take-append_seam, drop-append_seam, drop-append-add, append_snoc}
 use Rattle.std.proofs.lemmas.List.{set_at, set_split}

@@ -1,5 +1,6 @@
 -- A list with another put in the place of what stood there.
-use Rattle.laws.specs.Usual.{List, ◌++◌, ℕ, ◌+◌, length, take, drop}
+use Rattle.std.specs.Prelude.{◌++◌, ◌+◌}
+use Rattle.laws.specs.Usual.{List, ℕ, length, take, drop}
 
 -- d with s in the place of its octets from `at` on
 abbrev pub pasted : List ℕ → ℕ → List ℕ → List ℕ

@@ -1,12 +1,15 @@
 // Copying octets into the middle of a buffer.
-ghost use Rattle.laws.specs.Usual.{◌≡◌, ◌+◌, ◌-◌, ◌≤◌, min, length};
+#![tactic(auto)]
+
+ghost use Rattle.std.specs.Prelude.{◌≡◌, ◌+◌, ◌-◌, ◌≤◌};
+ghost use Rattle.laws.specs.Usual.{min, length};
 ghost use Rattle.copying.specs.Pasted.{pasted};
 
 fn put(source: &[u8], target: &mut [u8], at: usize)
     requires { at + length source.now ≤ length target.old }
     ensures { target.new ≡ pasted target.old at source.now }
 {
-    bytes::copy(source, &mut target[at..]);
+    target[at..at + source.len()].copy_from_slice(source);
 }
 
 // How many octets are copied at a time.
@@ -20,7 +23,7 @@ fn put_piece(source: &[u8], target: &mut [u8], at: usize)
     ensures { target.new ≡ pasted target.old at source.now }
 {
     let mut between = [0u8; PIECE];
-    bytes::copy(source, &mut between);
+    between[..source.len()].copy_from_slice(source);
     put(&between[0..source.len()], target, at);
 }
 

@@ -1,5 +1,6 @@
 -- The program `decode`: a capture comes octet by octet, and each line is answered by one line.
-use Rattle.laws.specs.Usual.{◌≡◌, cond, List, [], ◌++◌, ℕ, length, replicate}
+use Rattle.std.specs.Prelude.{◌≡◌, ◌++◌}
+use Rattle.laws.specs.Usual.{cond, List, [], ℕ, length, replicate}
 use Rattle.decode_answers.specs.Answers.{text_of}
 use Rattle.decode_line.specs.Gathering.{fresh, pushed, buffer_after, answered, begun}
 use Rattle.decode_line.specs.declared.Answer.TheVariants.{Bad}

@@ -1,6 +1,7 @@
 -- What is printed for an input: the answer to each of its lines as a whole, in their order, and `bad` for a last line without its line feed.
 -- Assumes nothing.
-use Rattle.laws.specs.Usual.{◌≡◌, refl, sym, ap, ap₂, ◌∙◌, Bool, cond, List, [], ◌∷◌, ◌++◌, ℕ, arith, length, replicate}
+use Rattle.std.specs.Prelude.{◌≡◌, ◌∷◌, ◌++◌}
+use Rattle.laws.specs.Usual.{refl, sym, ap, ap₂, ◌∙◌, Bool, cond, List, [], ℕ, arith, length, replicate}
 use Rattle.std.proofs.Common.{length-set}
 use Rattle.decode_answers.specs.Answers.{text_of}
 use Rattle.decode_line.specs.Begun.{begun_line}
@@ -9,16 +10,16 @@ use Rattle.decode_line.specs.Heard.{line_heard}
 use Rattle.text_hexadecimal.specs.Hexadecimal.{digit_of}
 use Rattle.decode_line.specs.Line.{line_answer, pushed_all, buffer_all}
 use Rattle.text_scanning.specs.Scanning.{NoFeed}
-use Rattle.decode_line.specs.declared.Answer.TheVariants as answers
 use Rattle.decode_line.specs.declared.Gathered.{Gathered}
 use Rattle.text_hexadecimal.specs.declared.Hexadecimal.{Hexadecimal}
 use Rattle.text_hexadecimal.specs.declared.Hexadecimal.TheVariants.{Digit, Other}
 use Rattle.decode_line.specs.declared.Pending.{Pending}
 use Rattle.decode_line.specs.declared.Pending.TheVariants.{Nothing, Half, Bad}
-use Rattle.text_feeding.specs.Feeding as feeding
-use Rattle.text_feeding.specs.Lines.{parted, Meaning, replies_to, Meant, text_came}
+use Rattle.text_feeding.proofs.Lines.{parted, Meaning, replies_to, Meant, text_came}
 use Rattle.decode.specs.Capture.{Carried, carried, decode, answer_to_rest, output_of}
 use Rattle.decode.specs.Scanned.{pushed_both}
+use Rattle.decode_line.specs.declared.Answer.TheVariants as answers
+use Rattle.text_feeding.specs.Feeding as feeding
 
 -- each line is answered by itself, as `line_answer` says of the whole line
 abbrev pub by_line : Meaning (Unit {0})

@@ -1,14 +1,16 @@
 -- A scan of a part of the capture takes it octet by octet. Assumes nothing.
-use Rattle.laws.specs.Usual.{◌≡◌, refl, List, [], ◌∷◌, ℕ, drop}
+use Rattle.std.specs.Prelude.{◌≡◌, ◌∷◌}
+use Rattle.laws.specs.Usual.{refl, List, [], ℕ, drop}
 use Rattle.decode_line.specs.Gathering.{pushed, buffer_after, made, scanned, buffer_scanned}
 use Rattle.decode_line.specs.Line.{pushed_all, buffer_all}
 use Rattle.text_scanning.specs.Scans.{scan_part, buffer_part, scan_line, buffer_line}
 use Rattle.decode_line.specs.declared.Gathered.{Gathered}
 use Rattle.decode_line.specs.declared.Scanned.{Scanned}
-use Rattle.text_feeding.specs.Feeding as feeding
-use Rattle.text_feeding.specs.Cut.{Cut, feed, clean, cut}
-use Rattle.text_feeding.specs.Scan.{Scan, scan_feed, scan_clean}
+use Rattle.text_feeding.proofs.Cut.{cut}
+use Rattle.text_feeding.specs.Cut.{Cut, feed, clean}
+use Rattle.text_feeding.proofs.Scan.{scan_feed, scan_clean, Scan}
 use Rattle.decode.specs.Capture.{carried, decode}
+use Rattle.text_feeding.specs.Feeding as feeding
 
 -- the line and the buffer are pushed octet by octet
 pub pushed_both : (room : ℕ) (octets : List ℕ) (line : Gathered) (frame : List ℕ) →

@@ -1,5 +1,6 @@
 -- The line that is printed for each answer.
-use Rattle.laws.specs.Usual.{List, [], ◌∷◌, ℕ}
+use Rattle.std.specs.Prelude.{◌∷◌}
+use Rattle.laws.specs.Usual.{List, [], ℕ}
 use Rattle.frame.specs.Codes.{code_number}
 use Rattle.frame_refusals.specs.Refusals.{number_of}
 use Rattle.frame.specs.declared.Fields.{Fields}

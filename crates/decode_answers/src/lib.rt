@@ -1,5 +1,7 @@
 // The line that is printed for each answer to a line of a capture.
-ghost use Rattle.laws.specs.Usual.{◌≡◌, [], ◌∷◌, length};
+#![tactic(auto)]
+ghost use Rattle.std.specs.Prelude.{◌≡◌, ◌∷◌};
+ghost use Rattle.laws.specs.Usual.{[], length};
 ghost use Rattle.copying.specs.Pasted.{pasted};
 ghost use Rattle.frame_refusals.specs.Refusals.{number_of};
 ghost use Rattle.text.specs.Lines.{line_of};

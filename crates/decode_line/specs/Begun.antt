@@ -1,5 +1,6 @@
 -- A line has begun as soon as one octet of it has come. Assumes nothing.
-use Rattle.laws.specs.Usual.{◌≡◌, refl, true, List, [], ◌∷◌, ℕ, ◌<◌, arith}
+use Rattle.std.specs.Prelude.{◌≡◌, ◌∷◌, ◌<◌}
+use Rattle.laws.specs.Usual.{refl, true, List, [], ℕ, arith}
 use Rattle.std.proofs.Math.Decide.{dec_lt}
 use Rattle.std.proofs.Common.{lt-ltb, le-ltb}
 use Rattle.decode_line.specs.Gathering.{count_after, pushed_by, pushed, begun}

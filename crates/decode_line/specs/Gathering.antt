@@ -1,16 +1,17 @@
 -- A line that comes octet by octet, into a buffer of limited length.
-use Rattle.laws.specs.Usual.{Bool, true, cond, List, ℕ, ◌+◌, ◌*◌, ◌%◌, length, take, set, ltb}
+use Rattle.std.specs.Prelude.{◌+◌, ◌*◌, ◌%◌}
+use Rattle.laws.specs.Usual.{Bool, true, cond, List, ℕ, length, take, set, ltb}
 use Rattle.frame_reading.specs.Reading.{read_of}
 use Rattle.text_hexadecimal.specs.Hexadecimal.{digit_of}
 use Rattle.text_scanning.specs.Scanning.{scan_of, buffer_of}
 use Rattle.decode_line.specs.declared.Answer.{Answer}
-use Rattle.decode_line.specs.declared.Answer.TheVariants as answers
 use Rattle.decode_line.specs.declared.Gathered.{Gathered}
 use Rattle.text_hexadecimal.specs.declared.Hexadecimal.{Hexadecimal}
 use Rattle.text_hexadecimal.specs.declared.Hexadecimal.TheVariants.{Digit, Other}
 use Rattle.decode_line.specs.declared.Pending.{Pending}
 use Rattle.decode_line.specs.declared.Pending.TheVariants.{Nothing, Half, Bad}
 use Rattle.decode_line.specs.declared.Scanned.{Scanned}
+use Rattle.decode_line.specs.declared.Answer.TheVariants as answers
 
 -- a line of which nothing has come
 abbrev pub fresh : Gathered

@@ -1,6 +1,7 @@
 -- A line that came octet by octet, into a buffer of 1121 octets or more, is answered as the whole line is: a frame of more octets than the
 -- buffer has is refused like one that just does not fit. Assumes nothing.
-use Rattle.laws.specs.Usual.{◌≡◌, refl, sym, ap, ◌∙◌, List, [], ◌∷◌, ◌++◌, ℕ, ◌+◌, ◌*◌, ◌<◌, ◌≤◌, arith, length, take, set}
+use Rattle.std.specs.Prelude.{◌≡◌, ◌∷◌, ◌++◌, ◌+◌, ◌*◌, ◌<◌, ◌≤◌}
+use Rattle.laws.specs.Usual.{refl, sym, ap, ◌∙◌, List, [], ℕ, arith, length, take, set}
 use Rattle.std.proofs.Common.{append-nil, append_assoc, add-one, length-set, length-take-le, take_all, take-suc-set, lt-ltb, le-ltb, le-leb}
 use Rattle.std.proofs.Math.Decide.{dec_le, dec_lt}
 use Rattle.std.proofs.lemmas.List.{take-append-le}
@@ -14,11 +15,11 @@ use Rattle.decode_line.specs.Gathering.{fresh, octet_of, count_after, pushed_by,
 use Rattle.text_hexadecimal.specs.Hexadecimal.{Spelled, octets, neither, joined, spelled, digit_of}
 use Rattle.decode_line.specs.Line.{answer_for, line_answer, pushed_all, buffer_all}
 use Rattle.decode_line.specs.declared.Answer.{Answer}
-use Rattle.decode_line.specs.declared.Answer.TheVariants as answers
 use Rattle.decode_line.specs.declared.Gathered.{Gathered}
 use Rattle.text_hexadecimal.specs.declared.Hexadecimal.{Hexadecimal}
 use Rattle.text_hexadecimal.specs.declared.Hexadecimal.TheVariants.{Digit, Other}
 use Rattle.decode_line.specs.declared.Pending.TheVariants.{Nothing, Bad}
+use Rattle.decode_line.specs.declared.Answer.TheVariants as answers
 
 -- so many octets stored, and nothing pending; or a bad line
 abbrev even : ℕ → Gathered

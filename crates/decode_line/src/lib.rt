@@ -1,13 +1,15 @@
 // One line of a capture: hexadecimal digits in, the frame's fields or a refusal out. The digits come one by one, so that a line of any length
 // needs no more memory than the longest frame.
-ghost use Rattle.laws.specs.Usual.{◌≡◌, take};
+#![tactic(auto)]
+ghost use Rattle.std.specs.Prelude.{◌≡◌};
+ghost use Rattle.laws.specs.Usual.{take};
 ghost use Rattle.frame_reading.specs.Reading.{read_of};
 ghost use Rattle.decode_line.specs.Gathering.{fresh, answered, begun};
 
 use frame_reading::Read;
 
 // How far a line has come.
-#[derive(Drop)]
+#[derive(Clone, Copy)]
 pub enum Pending {
     // Every digit so far is half of an octet that is stored.
     Nothing,
@@ -18,14 +20,14 @@ pub enum Pending {
 }
 
 // A line so far: the number of octets stored at the front of the buffer, and what is pending.
-#[derive(Drop)]
+#[derive(Clone, Copy)]
 pub struct Gathered {
     pub count: usize,
     pub pending: Pending,
 }
 
 // What a part of a text did to a line: what has come of the line, the place in the text behind it, and whether the line has ended.
-#[derive(Drop)]
+#[derive(Clone, Copy)]
 pub struct Scanned {
     pub gathered: Gathered,
     pub next: usize,
@@ -33,7 +35,7 @@ pub struct Scanned {
 }
 
 // What is answered to a line.
-#[derive(Drop)]
+#[derive(Clone, Copy)]
 pub enum Answer {
     Heard(Read),
     Bad,

@@ -1,40 +1,41 @@
 -- What a station with messages answers to octets, by what `decode` reads in them (`captured`): the two refuse alike. Assumes nothing.
-use Rattle.laws.specs.Usual.{◌≡◌, refl, sym, ap, ◌∙◌, Bool, true, false, cond, not, ◌&&◌, false≢true, List, ℕ, arith, length, eqb}
+use Rattle.std.specs.Prelude.{◌≡◌, ◌&&◌}
+use Rattle.laws.specs.Usual.{refl, sym, ap, ◌∙◌, Bool, true, false, cond, not, false≢true, List, ℕ, arith, length, eqb}
 use Rattle.frame.specs.Codes.{is_cyclic}
 use Rattle.frame.specs.Octets.{octet_at, long_at}
 use Rattle.frame.specs.Positions.{TFL, SNA}
 use Rattle.frame.specs.declared.Fields.{Fields}
 use Rattle.frame.specs.declared.Refusal.{Refusal}
-use Rattle.frame.specs.declared.Refusal.TheVariants as refusals
 use Rattle.frame_reading.specs.Reading.{and_then, whole, marked, long, coded, code_in, fields_of, read_header_of, read_body_of, read_of, data_of}
-use Rattle.frame_reading.specs.Reading as reading
 use Rattle.frame_reading.specs.declared.Read.{Read}
-use Rattle.frame_reading.specs.declared.Read.TheVariants as reads
-use Rattle.laws.specs.Tests as tests
 use Rattle.message.specs.declared.Judged.{Judged}
 use Rattle.message.specs.declared.Judged.TheVariants.{Abnormal, OtherVersion, Repeat, New}
 use Rattle.message.specs.declared.Letter.{Letter}
-use Rattle.message.specs.declared.Received.TheVariants as received
 use Rattle.message_capture.specs.Capture.{need, letter_by, base_read, captured}
 use Rattle.message_capture.specs.Told.{as_letter, as_base}
 use Rattle.message_capture.specs.declared.Capture.{Capture}
 use Rattle.message_capture.specs.declared.Capture.TheVariants.{Frame, Message, Refused}
 use Rattle.message_frames.specs.Frames.{is_letter_in, letter_in, addressed, measured}
-use Rattle.message_rules.specs.Ring.Buffers.{told}
+use Rattle.message_rules.proofs.Ring.Buffers.{told}
 use Rattle.message_rules.specs.Rules.Calls.{Both, hear_of}
 use Rattle.message_rules.specs.Rules.Hearing.{Hearing, is_letter, refused, unchanged, letter_heard, message_heard}
-use Rattle.message_rules.specs.Rules.Hearing as letters
 use Rattle.message_rules.specs.Rules.State.{Messages}
 use Rattle.station.specs.Rules.Data.{gathered}
-use Rattle.station.specs.Rules.Hearing as ring
 use Rattle.station.specs.Rules.State.{is_off, is_participating}
 use Rattle.station.specs.declared.Heard.{Heard}
-use Rattle.station.specs.declared.Heard.TheVariants as heard
 use Rattle.station.specs.declared.Phase.{Phase}
-use Rattle.station.specs.declared.Phase.TheVariants as phases
 use Rattle.station.specs.declared.Station.{Station}
-use Rattle.station.specs.declared.Token.TheVariants as tokens
 use Rattle.station.specs.declared.Data.TheVariants.{Dropped}
+use Rattle.frame.specs.declared.Refusal.TheVariants as refusals
+use Rattle.frame_reading.specs.Reading as reading
+use Rattle.frame_reading.specs.declared.Read.TheVariants as reads
+use Rattle.laws.specs.Tests as tests
+use Rattle.message.specs.declared.Received.TheVariants as received
+use Rattle.message_rules.specs.Rules.Hearing as letters
+use Rattle.station.specs.Rules.Hearing as ring
+use Rattle.station.specs.declared.Heard.TheVariants as heard
+use Rattle.station.specs.declared.Phase.TheVariants as phases
+use Rattle.station.specs.declared.Token.TheVariants as tokens
 
 off_out : (phase : Phase) → is_off phase ≡ true → is_participating phase ≡ false
 off_out phases.Off e = refl

@@ -1,6 +1,7 @@
 -- A station as a host in C keeps it, its core in eighteen numbers and its list in four arrays, and what each exported call leaves of it: the
 -- contracts of `crates/flnet_station/src/lib.rt`, one equation for each of their clauses. ("Box" is the request's word for a station's device.)
-use Rattle.laws.specs.Usual.{◌≡◌, Bool, List, ℕ, length}
+use Rattle.std.specs.Prelude.{◌≡◌}
+use Rattle.laws.specs.Usual.{Bool, List, ℕ, length}
 use Rattle.boundary_core.specs.Crossing.{core_of, station_in}
 use Rattle.boundary_answers.specs.Numbers.{switched_answer, ticked_answer}
 use Rattle.boundary_told.specs.Told.{heard_told, asked_told}

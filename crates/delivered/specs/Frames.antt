@@ -1,19 +1,20 @@
 -- What the answers of the exported calls tell of a frame is that of the frame. Assumes nothing.
-use Rattle.laws.specs.Usual.{◌≡◌, refl, sym, ap, ◌∙◌, List, ℕ, arith, take}
+use Rattle.std.specs.Prelude.{◌≡◌}
+use Rattle.laws.specs.Usual.{refl, sym, ap, ◌∙◌, List, ℕ, arith, take}
 use Rattle.boundary_answers.specs.Numbers.{no_frame}
 use Rattle.boundary_answers.specs.declared.Answer.{Answer}
 use Rattle.boundary_told.specs.Routes.{written_told_lem}
 use Rattle.boundary_told.specs.Told.{route_of, route_read, route_in, asked_told}
 use Rattle.frame_reading.specs.Reading.{read_of}
-use Rattle.station.specs.Frames.FrameAccepted.{frame_asked}
+use Rattle.station.proofs.Frames.FrameAccepted.{frame_asked}
 use Rattle.station.specs.Rules.Asking.{ask_of, due_fields}
 use Rattle.station.specs.Rules.Calls.{hear, ask}
 use Rattle.station.specs.States.Reachable.{Reachable}
 use Rattle.station.specs.Types.{Fields, Refusal, Frame, Refused}
 use Rattle.station.specs.declared.Asked.{Asked}
-use Rattle.station.specs.declared.Asked.TheVariants as asked
 use Rattle.station.specs.declared.Station.{Station}
 use Rattle.delivered.specs.Boxes.{Box, station_at, Done}
+use Rattle.station.specs.declared.Asked.TheVariants as asked
 
 -- An answer to a frame that was handed over has the code, the source and the destination of the frame that was read, or zeros where none was.
 pub heard_frame : {before left : Box} {octets memory assembly : List ℕ} {answer : Answer} {buffers : List (List ℕ)}

@@ -1,13 +1,13 @@
 -- Demand 1 of the exported calls: "a numbered refusal changes no buffer, and no station state except in the one case that the table names".
 -- Assumes nothing.
-use Rattle.laws.specs.Usual.{◌≡◌, refl, sym, ap, ◌∙◌, false, List, ℕ, ◌<◌, arith}
+use Rattle.std.specs.Prelude.{◌≡◌, ◌<◌}
+use Rattle.laws.specs.Usual.{refl, sym, ap, ◌∙◌, false, List, ℕ, arith}
 use Rattle.boundary_core.specs.Crossing.{core_of, station_of, station_kept}
 use Rattle.boundary_answers.specs.Numbers.{switched_answer, ticked_answer}
 use Rattle.boundary_told.specs.Told.{heard_told, asked_told}
 use Rattle.boundary_answers.specs.declared.Answer.{Answer}
 use Rattle.boundary_core.specs.declared.Core.{Core}
 use Rattle.frame_refusals.specs.Refusals.{number_of}
-use Rattle.frame.specs.declared.Refusal.TheVariants as refusals
 use Rattle.boundary_lists.specs.Laws.{list_told}
 use Rattle.boundary_lists.specs.Lists.{members_in}
 use Rattle.boundary_places.specs.Laws.{kept_same, core_in_back}
@@ -15,21 +15,22 @@ use Rattle.boundary_places.specs.Places.{kept}
 use Rattle.station.specs.Rules.Asking.{ask_of}
 use Rattle.station.specs.Rules.Calls.{Call, start, stop, tick, hear, ask, after, lent, Verdict, refused_by, unrefused, verdict, switched_verdict, heard_verdict, asked_verdict}
 use Rattle.station.specs.Rules.Hearing.{hear_of}
-use Rattle.station.specs.RefusedLeft.{Spared, same, turned_off, Left, refused_left}
+use Rattle.station.proofs.RefusedLeft.{refused_left}
+use Rattle.station.specs.RefusedLeft.{Spared, same, turned_off, Left}
 use Rattle.station.specs.Rules.Starting.{start_of, stop_of}
 use Rattle.station.specs.Rules.State.{is_participating, stopped}
 use Rattle.station.specs.Rules.Ticking.{tick_of}
-use Rattle.station.specs.declared.Asked.TheVariants as asked
-use Rattle.station.specs.declared.Heard.TheVariants as heard
-use Rattle.station.specs.declared.Switched.TheVariants as switched
 use Rattle.station.specs.Types.{Refusal}
 use Rattle.station.specs.declared.Station.{Station}
 use Rattle.station.specs.declared.Switched.{Switched}
 use Rattle.station.specs.declared.Ticked.{Ticked}
 use Rattle.station.specs.declared.Heard.{Heard}
 use Rattle.station.specs.declared.Asked.{Asked}
-use Rattle.station.specs.declared.Ticked.TheVariants as ticked
 use Rattle.delivered.specs.Boxes.{Box, station_at, answer_of, Done}
+use Rattle.station.specs.declared.Asked.TheVariants as asked
+use Rattle.station.specs.declared.Heard.TheVariants as heard
+use Rattle.station.specs.declared.Switched.TheVariants as switched
+use Rattle.station.specs.declared.Ticked.TheVariants as ticked
 
 -- the station that a call leaves in the box is the one that the rules leave
 pub left_is : {before left : Box} {call : Call} {answer : Answer} {buffers : List (List ℕ)} → Done before call left answer buffers

@@ -1,6 +1,7 @@
 -- Demand 3 of the exported calls: the boxes of a ring, each changed by its own calls alone, go through just the states of the ring of full
 -- stations, so that all that is proved of it holds of them. Assumes nothing.
-use Rattle.laws.specs.Usual.{◌≡◌, refl, sym, ap, ap₂, subst, ◌∙◌, List, [], ◌∷◌, ◌++◌, ℕ, arith, take}
+use Rattle.std.specs.Prelude.{◌≡◌, ◌∷◌, ◌++◌}
+use Rattle.laws.specs.Usual.{refl, sym, ap, ap₂, subst, ◌∙◌, List, [], ℕ, arith, take}
 use mathlib.Core.List.{head-eq_of_cons-eq, tail-eq_of_cons-eq}
 use Rattle.std.proofs.Math.Decide.{ℕ_discrete}
 use Rattle.std.proofs.Common.{eq-eqb, ne_eqb}
@@ -8,19 +9,19 @@ use Rattle.boundary_told.specs.Told.{asked_told}
 use Rattle.boundary_answers.specs.declared.Answer.{Answer}
 use Rattle.boundary_places.specs.Places.{core_in}
 use Rattle.ring.specs.Demand.{Disturbed, RingSettles}
-use Rattle.ring.specs.DemandThree.{demand_three_whole}
+use Rattle.ring.proofs.DemandThree.{demand_three_whole}
 use Rattle.ring.specs.Events.{Stations, Lent, Event, asked, ticked, stray, handed, after_event, AllName, CanCome}
-use Rattle.settling.specs.Append.{finds_front}
+use Rattle.settling.proofs.Append.{finds_front}
 use Rattle.settling.specs.First.{FirstAgreement}
 use Rattle.settling.specs.Ring.{◌∈◌}
 use Rattle.settling.specs.Steps.{after_all, EachFinds}
 use Rattle.station.specs.Rules.Asking.{ask_of}
 use Rattle.station.specs.Rules.Calls.{Call, tick, hear, ask, after}
-use Rattle.station.specs.declared.Asked.TheVariants as answers
 use Rattle.station.specs.declared.Station.{Station}
 use Rattle.station.specs.declared.Asked.{Asked}
 use Rattle.delivered.specs.Boxes.{Box, station_at, Done}
 use Rattle.delivered.specs.Refusals.{left_is}
+use Rattle.station.specs.declared.Asked.TheVariants as answers
 
 -- the boxes of a ring, by their numbers
 abbrev pub Boxes : Type 0

@@ -1,4 +1,6 @@
 // The station's calls for C. include/flnet_station.h declares them. Core and station list are lent as arrays of numbers, and changed in place.
+#![tactic(auto)]
+
 ghost use Rattle.std.specs.Prelude.{List, ◌≡◌, replicate, ℕ};
 ghost use Rattle.boundary_core.specs.Crossing.{core_of, station_in, figure_in};
 ghost use Rattle.boundary_answers.specs.Numbers.{switched_answer, ticked_answer};

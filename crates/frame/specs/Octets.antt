@@ -1,5 +1,6 @@
 -- Clause 8.3 of JEM 1479: the header of every frame is big endian, the most significant octet first.
-use Rattle.laws.specs.Usual.{List, ℕ, ◌+◌, ◌*◌, get_or}
+use Rattle.std.specs.Prelude.{◌+◌, ◌*◌}
+use Rattle.laws.specs.Usual.{List, ℕ, get_or}
 
 abbrev pub octet_at : List ℕ → ℕ → ℕ
 octet_at s at = get_or s at 0

@@ -1,4 +1,6 @@
 // The frames of FL-net: their fields, their codes, and what a station refuses.
+#![tactic(auto)]
+
 ghost use Rattle.std.specs.Prelude.{◌≡◌};
 ghost use Rattle.frame.specs.Codes.{code_of, code_number, is_token, is_cyclic, carries_areas};
 
@@ -6,7 +8,7 @@ use area::Areas;
 use units::Milliseconds;
 
 // The fields of a frame that the paper names, in the order of the header, each under the standard's symbol.
-#[derive(Drop)]
+#[derive(Clone, Copy)]
 pub struct Fields {
     // TFL
     pub length: u32,
@@ -29,7 +31,7 @@ pub struct Fields {
 }
 
 // 65000 cyclic with token, 65001 cyclic without, 65002 participation request, 65012 trigger.
-#[derive(Drop)]
+#[derive(Clone, Copy)]
 pub enum Code {
     Token,
     Cyclic,
@@ -37,7 +39,7 @@ pub enum Code {
     Trigger,
 }
 
-#[derive(Drop)]
+#[derive(Clone, Copy)]
 pub enum Coded {
     Known(Code),
     Unknown,
@@ -104,7 +106,7 @@ pub fn carries_areas(code: Code) -> bool
 pub const OUTPUT_OCTETS: usize = 1088;
 
 // Each refusal under the papers' word for it, in the order of the numbers.
-#[derive(Drop)]
+#[derive(Clone, Copy)]
 pub enum Refusal {
     Cut,
     Mark,

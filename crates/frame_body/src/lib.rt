@@ -1,5 +1,7 @@
 // Reading a frame to its end: refusals 7, 14, 15 and 8, and the whole frame.
-ghost use Rattle.laws.specs.Usual.{◌≡◌};
+#![tactic(auto)]
+
+ghost use Rattle.std.specs.Prelude.{◌≡◌};
 ghost use Rattle.frame_reading.specs.Reading.{ranged, totalled, numbered, measured, read_body_of, read_of};
 
 use frame::{Fields, Refusal};

@@ -1,5 +1,7 @@
 // The data of a frame that was read.
-ghost use Rattle.laws.specs.Usual.{◌≡◌, ◌-◌};
+#![tactic(auto)]
+
+ghost use Rattle.std.specs.Prelude.{◌≡◌, ◌-◌};
 ghost use Rattle.frame_reading.specs.Reading.{data_size, data_of};
 
 use frame::Fields;

@@ -1,5 +1,6 @@
 -- Paper 01, "Frame fields used" and "Numbers the station answers with": reading a frame.
-use Rattle.laws.specs.Usual.{Bool, true, false, cond, not, ◌&&◌, ◌||◌, List, ℕ, ◌-◌, length, drop, eqb, leb}
+use Rattle.std.specs.Prelude.{◌&&◌, ◌||◌, ◌-◌}
+use Rattle.laws.specs.Usual.{Bool, true, false, cond, not, List, ℕ, length, drop, eqb, leb}
 use Rattle.area.specs.Areas.{in_range}
 use Rattle.block.specs.Blocks.{blocks_of, length_of}
 use Rattle.frame.specs.Codes.{code_of, is_known, code_from, is_token, is_cyclic, carries_areas}

@@ -1,8 +1,11 @@
 // Reading a frame: its header, or the first of refusals 1 to 5 that applies.
+#![tactic(auto)]
+
 mod octets;
 mod position;
 
-ghost use Rattle.laws.specs.Usual.{◌≡◌, ◌≤◌, length};
+ghost use Rattle.std.specs.Prelude.{◌≡◌, ◌≤◌};
+ghost use Rattle.laws.specs.Usual.{length};
 ghost use Rattle.frame_reading.specs.Reading.{marked, fields_of, is_station, addressed, read_header_of};
 
 use area::{Areas, Part};
@@ -11,7 +14,7 @@ pub use octets::{long_at, word_at};
 pub use position::{BSIZE, DNA, SNA, TCD, TFL};
 use units::Milliseconds;
 
-#[derive(Drop)]
+#[derive(Clone, Copy)]
 pub enum Read {
     Frame(Fields),
     Refused(Refusal),

@@ -1,5 +1,6 @@
 // Numbers of one, two and four octets, the most significant first (clause 8.3).
-ghost use Rattle.laws.specs.Usual.{◌≡◌, ◌+◌, ◌*◌, ◌<◌, length};
+ghost use Rattle.std.specs.Prelude.{◌≡◌, ◌+◌, ◌*◌, ◌<◌};
+ghost use Rattle.laws.specs.Usual.{length};
 ghost use Rattle.frame.specs.Octets.{word_at, long_at};
 
 fn join(high: u8, low: u8) -> u16

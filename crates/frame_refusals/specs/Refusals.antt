@@ -1,6 +1,7 @@
 -- Paper 01, "Numbers the station answers with", E2 and E5 of paper 02: the number of each refusal, and the order in which they are asked. A
 -- refusal that a change request adds gets a clause of its own here, and a row in the order.
-use Rattle.laws.specs.Usual.{◌≡◌, refl, List, [], ◌∷◌, map, ℕ}
+use Rattle.std.specs.Prelude.{◌∷◌}
+use Rattle.laws.specs.Usual.{[], List, ℕ}
 use Rattle.frame.specs.declared.Refusal.{Refusal}
 use Rattle.frame.specs.declared.Refusal.TheVariants.{Cut, Mark, Length, Code, Address, Taken, Area, Block, Stranger, NotDue, Buffer, Message, Waiting, Total, Number}
 
@@ -41,6 +42,3 @@ order =
     ∷ Block
     ∷ Stranger
     ∷ []
-
-pub order_numbers : map number_of order ≡ 11 ∷ 12 ∷ 13 ∷ 10 ∷ 1 ∷ 2 ∷ 3 ∷ 4 ∷ 5 ∷ 6 ∷ 7 ∷ 14 ∷ 15 ∷ 8 ∷ 9 ∷ []
-order_numbers = refl

@@ -1,4 +1,6 @@
 // The numbers that a station refuses with.
+#![tactic(auto)]
+
 ghost use Rattle.std.specs.Prelude.{◌≡◌};
 ghost use Rattle.frame_refusals.specs.Refusals.{number_of};
 

@@ -1,6 +1,6 @@
 -- Where the fields that the paper names stand in a frame, octet by octet, and what stands at the other places and where a code fixes it.
-use Rattle.laws.specs.Usual.{Bool, false, cond, ◌||◌, List, [], ◌∷◌, ◌++◌, map, ℕ, suc, ◌+◌, eqb}
-use Rattle.std.specs.Prelude.{zero}
+use Rattle.laws.specs.Usual.{[], Bool, false, cond, List, map, ℕ, suc, eqb}
+use Rattle.std.specs.Prelude.{◌||◌, ◌∷◌, ◌++◌, ◌+◌, zero}
 use Rattle.frame.specs.Octets.{octet_at}
 use Rattle.frame.specs.Positions.{TFL, SNA, DNA, TCD, C_AD1, C_SZ1, C_AD2, C_SZ2, CBN, TBN, BSIZE, TW}
 use Rattle.frame.specs.declared.Code.{Code}

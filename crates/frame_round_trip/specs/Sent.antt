@@ -1,5 +1,6 @@
 -- The fields of the frames that a station sends.
-use Rattle.laws.specs.Usual.{cond, ℕ, ◌+◌, eqb}
+use Rattle.std.specs.Prelude.{◌+◌}
+use Rattle.laws.specs.Usual.{cond, ℕ, eqb}
 use Rattle.block.specs.Blocks.{blocks_of, length_of}
 use Rattle.area.specs.declared.Areas.{Areas}
 use Rattle.frame.specs.Positions.{header_length}

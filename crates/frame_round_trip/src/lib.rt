@@ -1,1 +1,2 @@
 // Theorems about reading and writing frames. There is no code here: they stand in specs/.
+#![tactic(auto)]

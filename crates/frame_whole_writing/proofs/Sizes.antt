@@ -1,5 +1,6 @@
 -- A bound on the octets of a frame that is written. Assumes nothing.
-use Rattle.laws.specs.Usual.{Bool, true, false, cond, ℕ, ◌≤◌, arith}
+use Rattle.std.specs.Prelude.{◌≤◌}
+use Rattle.laws.specs.Usual.{Bool, true, false, cond, ℕ, arith}
 use native.Mathlib.Nat.{le_refl}
 use Rattle.frame.specs.Codes.{is_cyclic}
 use Rattle.frame.specs.declared.Fields.{Fields}

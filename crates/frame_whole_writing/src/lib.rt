@@ -1,5 +1,7 @@
 // Writing a whole frame: its fields with their fixed values, and the data behind the header.
-ghost use Rattle.laws.specs.Usual.{◌≡◌};
+#![tactic(auto)]
+
+ghost use Rattle.std.specs.Prelude.{◌≡◌};
 ghost use Rattle.frame_writing.specs.Writing.{whole_length, fixed_for, fixed, written_of, output_of};
 ghost use Rattle.frame.specs.declared.Code.TheVariants.{Token, Request, Trigger};
 

@@ -1,5 +1,6 @@
 -- The lengths of what is written. Assumes nothing.
-use Rattle.laws.specs.Usual.{◌≡◌, refl, List, ℕ, ◌≤◌, length, take}
+use Rattle.std.specs.Prelude.{◌≡◌, ◌≤◌}
+use Rattle.laws.specs.Usual.{refl, List, ℕ, length, take}
 use Rattle.std.proofs.Common.{length-append, length-take-le}
 use Rattle.frame.specs.declared.Fields.{Fields}
 use Rattle.frame_reading.specs.Reading.{data_size}

@@ -1,5 +1,6 @@
 -- A frame written in two steps: its header in front, then its data right behind. Assumes nothing.
-use Rattle.laws.specs.Usual.{◌≡◌, sym, ap, ap₂, ◌∙◌, List, ◌++◌, ℕ, ◌+◌, ◌≤◌, length, take, drop}
+use Rattle.std.specs.Prelude.{◌≡◌, ◌++◌, ◌+◌, ◌≤◌}
+use Rattle.laws.specs.Usual.{sym, ap, ap₂, ◌∙◌, List, ℕ, length, take, drop}
 use Rattle.std.proofs.Common.{length-take-le, le-leb}
 use Rattle.copying.specs.Laws.{paste_both}
 use Rattle.copying.specs.Pasted.{pasted}

@@ -1,6 +1,7 @@
 -- Paper 01, "Frame fields used": writing a frame. "We write 64-octet headers. .. A field that no rule here sets, and the destination outside
 -- code 65000, gets the value that clause 10.1 fixes for that frame, else 0."
-use Rattle.laws.specs.Usual.{Bool, cond, ◌&&◌, List, [], ◌∷◌, ◌++◌, ℕ, ◌+◌, ◌/◌, ◌%◌, length, take, drop, replicate, leb}
+use Rattle.std.specs.Prelude.{◌&&◌, ◌∷◌, ◌++◌, ◌+◌, ◌/◌, ◌%◌}
+use Rattle.laws.specs.Usual.{Bool, cond, List, [], ℕ, length, take, drop, replicate, leb}
 use Rattle.area.specs.declared.Areas.{Areas}
 use Rattle.units.specs.declared.Milliseconds.{Milliseconds}
 use Rattle.frame.specs.Codes.{code_number, is_cyclic, carries_areas}

@@ -1,5 +1,8 @@
 // Writing a header of 64 octets.
-ghost use Rattle.laws.specs.Usual.{◌≡◌, ◌≤◌, length};
+#![tactic(auto)]
+
+ghost use Rattle.std.specs.Prelude.{◌≡◌, ◌≤◌};
+ghost use Rattle.laws.specs.Usual.{length};
 ghost use Rattle.copying.specs.Pasted.{pasted};
 ghost use Rattle.frame_writing.specs.Writing.{front_of, back_of, header_of};
 
@@ -8,7 +11,7 @@ use frame::{Code, Fields, Refusal};
 use units::Milliseconds;
 
 // What writing answers.
-#[derive(Drop)]
+#[derive(Clone, Copy)]
 pub enum Written {
     // The number of octets of the frame, which stands in front in the output.
     Octets(usize),

@@ -1,5 +1,7 @@
 // Hearing a frame.
-ghost use Rattle.laws.specs.Usual.{◌≡◌, true, length};
+#![tactic(auto)]
+ghost use Rattle.std.specs.Prelude.{◌≡◌};
+ghost use Rattle.laws.specs.Usual.{true, length};
 ghost use Rattle.frame_reading.specs.Reading.{read_body_of};
 ghost use Rattle.frame_reading.specs.declared.Read.TheVariants as reads;
 ghost use Rattle.station.specs.Rules.Hearing.{knows as knows_of, is_stranger, is_taken, after_taken, lent_right, accepted, body_heard, header_heard, hear_of};

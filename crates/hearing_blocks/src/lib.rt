@@ -1,5 +1,7 @@
 // What a heard block is to what was gathered: of the listed areas, a repeat, the next one.
-ghost use Rattle.laws.specs.Usual.{◌≡◌, ◌&&◌, ◌+◌, ◌≤◌, length, eqb};
+#![tactic(auto)]
+ghost use Rattle.std.specs.Prelude.{◌≡◌, ◌&&◌, ◌+◌, ◌≤◌};
+ghost use Rattle.laws.specs.Usual.{length, eqb};
 ghost use Rattle.area.specs.Areas.{memory_octets};
 ghost use Rattle.block.specs.Blocks.{start_of};
 ghost use Rattle.station.specs.Rules.Data.{same_areas, is_repeat, is_next};

@@ -1,5 +1,6 @@
 -- What a frame that passed refusals 7, 14, 15 and 8 is known to be. Assumes nothing.
-use Rattle.laws.specs.Usual.{◌≡◌, sym, ap, ◌∙◌, Bool, true, cond, List, ℕ, ◌+◌, ◌-◌, ◌≤◌, arith, length}
+use Rattle.std.specs.Prelude.{◌≡◌, ◌+◌, ◌-◌, ◌≤◌}
+use Rattle.laws.specs.Usual.{sym, ap, ◌∙◌, Bool, true, cond, List, ℕ, arith, length}
 use Rattle.std.proofs.Common.{length-drop}
 use Rattle.area.specs.Areas.{in_range, memory_octets}
 use Rattle.block.specs.Blocks.{start_of}
@@ -8,8 +9,8 @@ use Rattle.frame.specs.Codes.{is_cyclic, carries_areas}
 use Rattle.laws.specs.Tests.{implied}
 use Rattle.frame_reading.specs.Reading.{blocked, read_body_of, data_size, data_of}
 use Rattle.station.specs.Types.{Fields, Frame}
-use Rattle.frame_round_trip.specs.Accepted.{bodied}
-use Rattle.frame_round_trip.specs.Shown.{is_blocked, cyclic_carries}
+use Rattle.frame_round_trip.proofs.Accepted.{bodied}
+use Rattle.frame_round_trip.proofs.Shown.{is_blocked, cyclic_carries}
 
 -- reading a body gives the fields that it was given
 pub body_read : (given : ℕ) (frame body : Fields) → read_body_of given frame ≡ Frame body → read_body_of given body ≡ Frame body

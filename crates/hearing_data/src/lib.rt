@@ -1,5 +1,7 @@
 // The data of a cyclic frame that was heard.
-ghost use Rattle.laws.specs.Usual.{◌≡◌, true, length};
+#![tactic(auto)]
+ghost use Rattle.std.specs.Prelude.{◌≡◌};
+ghost use Rattle.laws.specs.Usual.{true, length};
 ghost use Rattle.frame.specs.Codes.{is_cyclic};
 ghost use Rattle.frame_reading.specs.Reading.{read_body_of, data_of};
 ghost use Rattle.frame_reading.specs.declared.Read.TheVariants as reads;

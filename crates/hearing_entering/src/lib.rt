@@ -1,5 +1,7 @@
 // What a frame does before we participate, and a request at a participant.
-ghost use Rattle.laws.specs.Usual.{◌≡◌, cond, ltb};
+#![tactic(auto)]
+ghost use Rattle.std.specs.Prelude.{◌≡◌};
+ghost use Rattle.laws.specs.Usual.{cond, ltb};
 ghost use Rattle.members.specs.Listing.{listing};
 ghost use Rattle.station.specs.Rules.Hearing.{requested, enters};
 ghost use Rattle.station.specs.Rules.Starting.{joined_by};

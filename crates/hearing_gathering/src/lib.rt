@@ -1,5 +1,7 @@
 // Putting a turn's blocks together, and writing the turn to the common memory.
-ghost use Rattle.laws.specs.Usual.{◌≡◌, true, ◌+◌, ◌≤◌, length};
+#![tactic(auto)]
+ghost use Rattle.std.specs.Prelude.{◌≡◌, ◌+◌, ◌≤◌};
+ghost use Rattle.laws.specs.Usual.{true, length};
 ghost use Rattle.area.specs.Areas.{in_range, memory_octets};
 ghost use Rattle.block.specs.Blocks.{start_of};
 ghost use Rattle.station.specs.Rules.Data.{turn_written, storing, gathered_from};
@@ -11,7 +13,7 @@ use frame::Fields;
 use station::{Data, Gathering};
 
 // What gathering one block leaves of the turn, and what became of the block.
-#[derive(Drop)]
+#[derive(Clone, Copy)]
 pub struct Stored {
     pub gathering: Gathering,
     pub outcome: Data,

@@ -1,5 +1,7 @@
 // A cyclic frame that a participant hears.
-ghost use Rattle.laws.specs.Usual.{◌≡◌, true, length};
+#![tactic(auto)]
+ghost use Rattle.std.specs.Prelude.{◌≡◌};
+ghost use Rattle.laws.specs.Usual.{true, length};
 ghost use Rattle.frame.specs.Codes.{is_cyclic};
 ghost use Rattle.frame_reading.specs.Reading.{read_body_of, data_of};
 ghost use Rattle.frame_reading.specs.declared.Read.TheVariants as reads;
@@ -10,7 +12,7 @@ use frame::Fields;
 use station::{Heard, Station};
 
 // A call of hear: the state after it, and the answer.
-#[derive(Drop)]
+#[derive(Clone, Copy)]
 pub struct Hearing {
     pub station: Station,
     pub answer: Heard,

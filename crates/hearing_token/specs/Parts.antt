@@ -1,5 +1,6 @@
 -- The answer of `outcome_of` by our number and our view alone: the rest of a station does not matter to it.
-use Rattle.laws.specs.Usual.{◌≡◌, refl, cond, not, ℕ, eqb}
+use Rattle.std.specs.Prelude.{◌≡◌}
+use Rattle.laws.specs.Usual.{refl, cond, not, ℕ, eqb}
 use Rattle.frame.specs.Codes.{is_token}
 use Rattle.station.specs.Rules.Token.{takes, view_heard, outcome_of}
 use Rattle.frame.specs.declared.Fields.{Fields}

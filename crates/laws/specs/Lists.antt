@@ -1,5 +1,6 @@
 -- Laws of lists. Assumes nothing.
-use Rattle.laws.specs.Usual.{◌≡◌, sym, ◌∙◌, List, map, ℕ, ◌-◌, length, take, drop}
+use Rattle.std.specs.Prelude.{◌≡◌, ◌-◌}
+use Rattle.laws.specs.Usual.{sym, ◌∙◌, List, map, ℕ, length, take, drop}
 use Rattle.std.proofs.Common.{le_refl, length-drop, take_all}
 use Rattle.std.proofs.lemmas.List.{length-map}
 

@@ -1,5 +1,6 @@
 -- Laws of tests, as values of Bool. Assumes nothing.
-use Rattle.laws.specs.Usual.{◌≡◌, refl, sym, Bool, true, false, not, ◌&&◌, ◌||◌, false≢true}
+use Rattle.std.specs.Prelude.{◌≡◌, ◌&&◌, ◌||◌}
+use Rattle.laws.specs.Usual.{refl, sym, Bool, true, false, not, false≢true}
 
 -- a test of two parts holds where both parts do
 pub both : {a b : Bool} → a ≡ true → b ≡ true → (a && b) ≡ true

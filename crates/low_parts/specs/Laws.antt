@@ -1,6 +1,6 @@
 -- What is put into the low part of a number is what stands there, and what stands there already changes nothing. Assumes nothing.
-use Rattle.laws.specs.Usual.{◌≡◌, refl, ap, ◌∙◌, Bool, true, false, List, [], ◌∷◌, ℕ, suc, ◌%◌, ◌<◌, arith, length, get_or}
-use Rattle.std.specs.Prelude.{zero}
+use Rattle.laws.specs.Usual.{refl, ap, ◌∙◌, Bool, true, false, List, [], ℕ, suc, arith, length, get_or}
+use Rattle.std.specs.Prelude.{◌≡◌, ◌∷◌, ◌%◌, ◌<◌, zero}
 use Rattle.std.proofs.Common.{eq-eqb, ne_eqb, eqb-true}
 use Rattle.std.proofs.lemmas.Bool.{eqb-false}
 use Rattle.low_parts.specs.Parts.{octet, octets, flag, with_octet, with_octets, with_flag}

@@ -1,5 +1,6 @@
 -- The low part of a number that stands for an octet, two octets or a flag, and a number with another low part. What stands above it does not count.
-use Rattle.laws.specs.Usual.{Bool, cond, ℕ, ◌+◌, ◌*◌, ◌/◌, ◌%◌, eqb}
+use Rattle.std.specs.Prelude.{◌+◌, ◌*◌, ◌/◌, ◌%◌}
+use Rattle.laws.specs.Usual.{Bool, cond, ℕ, eqb}
 
 abbrev pub octet : ℕ → ℕ
 octet number = number % 256

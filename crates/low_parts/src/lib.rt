@@ -1,5 +1,7 @@
 // The low part of a number of 32 bits: an octet, two octets or a flag, read and put there. What stands above it is left as it is.
-ghost use Rattle.laws.specs.Usual.{◌≡◌};
+#![tactic(auto)]
+
+ghost use Rattle.std.specs.Prelude.{◌≡◌};
 ghost use Rattle.low_parts.specs.Parts.{octet, octets, flag, with_octet, with_octets, with_flag};
 
 pub fn octet_of(number: u32) -> u8

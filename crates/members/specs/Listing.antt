@@ -1,5 +1,6 @@
 -- Listing a station (paper 01, "Starting and joining").
-use Rattle.laws.specs.Usual.{Bool, true, false, cond, not, ◌&&◌, ◌||◌, List, [], ◌∷◌, ℕ, suc, eqb}
+use Rattle.std.specs.Prelude.{◌&&◌, ◌||◌, ◌∷◌}
+use Rattle.laws.specs.Usual.{Bool, true, false, cond, not, List, [], ℕ, suc, eqb}
 use Rattle.area.specs.Overlap.{areas_overlap}
 use Rattle.area.specs.declared.Areas.{Areas}
 use Rattle.units.specs.declared.Milliseconds.{Milliseconds}

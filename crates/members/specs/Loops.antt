@@ -1,5 +1,6 @@
 -- Laws for loops that go over the list by the numbers of its entries. Assumes nothing.
-use Rattle.laws.specs.Usual.{◌≡◌, ap, true, false, not, ◌&&◌, ◌||◌, List, [], ◌∷◌, ℕ, ◌+◌, ◌<◌, ◌≤◌, length, get_or, drop, eqb}
+use Rattle.std.specs.Prelude.{◌≡◌, ◌&&◌, ◌||◌, ◌∷◌, ◌+◌, ◌<◌, ◌≤◌}
+use Rattle.laws.specs.Usual.{ap, true, false, not, List, [], ℕ, length, get_or, drop, eqb}
 use Rattle.std.proofs.Common.{add-one, drop_of_length-le, drop-cons}
 use Rattle.area.specs.Overlap.{areas_overlap}
 use Rattle.area.specs.declared.Areas.{Areas}

@@ -1,5 +1,6 @@
 -- The station list (paper 01, "The token view and the watch"): who is in it, next, misses and striking.
-use Rattle.laws.specs.Usual.{Bool, true, false, cond, List, [], ◌∷◌, ℕ, suc, ◌+◌, get_or, set, replicate, leb, ltb}
+use Rattle.std.specs.Prelude.{◌∷◌, ◌+◌}
+use Rattle.laws.specs.Usual.{Bool, true, false, cond, List, [], ℕ, suc, get_or, set, replicate, leb, ltb}
 use Rattle.settling.specs.Ring.{next}
 use Rattle.members.specs.declared.Entry.{Entry}
 use Rattle.members.specs.declared.Members.{Members}

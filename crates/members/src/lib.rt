@@ -1,4 +1,6 @@
 // The station list: what is known of each other station of the ring.
+#![tactic(auto)]
+
 ghost use Rattle.std.specs.Prelude.{◌≡◌};
 ghost use Rattle.members.specs.Members.{nobody, no_members, entry_of, is_listed, with_entry};
 
@@ -7,7 +9,7 @@ use units::Milliseconds;
 
 // An entry, at the place of its station's number. One that is not listed holds nothing else.
 #[repr(C)]
-#[derive(Drop)]
+#[derive(Clone, Copy)]
 pub struct Entry {
     pub listed: bool,
     pub areas: Areas,
@@ -16,7 +18,7 @@ pub struct Entry {
 }
 
 #[repr(C)]
-#[derive(Drop)]
+#[derive(Clone, Copy)]
 pub struct Members {
     pub entries: [Entry; 256],
 }

@@ -1,5 +1,8 @@
 // Listing a station.
-ghost use Rattle.laws.specs.Usual.{◌≡◌, cond, ◌||◌};
+#![tactic(auto)]
+
+ghost use Rattle.std.specs.Prelude.{◌≡◌, ◌||◌};
+ghost use Rattle.laws.specs.Usual.{cond};
 ghost use Rattle.area.specs.Overlap.{areas_overlap};
 ghost use Rattle.members.specs.Listing.{bare, overlaps_other, overlaps_listed, listing};
 

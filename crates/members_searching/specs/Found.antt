@@ -1,6 +1,6 @@
 -- Next and the smallest by searches for the first listed number: above a number, and from the start. Assumes nothing.
-use Rattle.laws.specs.Usual.{◌≡◌, refl, ap, ◌∙◌, Bool, true, false, cond, List, [], ◌∷◌, ℕ, suc, ◌+◌, ◌<◌, min, arith, drop, ltb}
-use Rattle.std.specs.Prelude.{zero}
+use Rattle.laws.specs.Usual.{refl, ap, ◌∙◌, Bool, true, false, cond, List, [], ℕ, suc, min, arith, drop, ltb}
+use Rattle.std.specs.Prelude.{◌≡◌, ◌∷◌, ◌+◌, ◌<◌, zero}
 use Rattle.std.proofs.Common.{lt-ltb, le-ltb, ltb-true, ltb-false}
 use Rattle.settling.specs.Ring.{first_above, next}
 use Rattle.members.specs.Members.{numbers_from, numbers_of, is_empty, with_ours, first_of, smallest, next_after}

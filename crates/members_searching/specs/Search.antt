@@ -1,5 +1,6 @@
 -- The search for the first listed number from some number on.
-use Rattle.laws.specs.Usual.{Bool, true, false, List, [], ◌∷◌, ℕ, drop}
+use Rattle.std.specs.Prelude.{◌∷◌}
+use Rattle.laws.specs.Usual.{Bool, true, false, List, [], ℕ, drop}
 use Rattle.members.specs.Members.{numbers_from}
 use Rattle.members_searching.specs.declared.Found.{Found}
 use Rattle.members_searching.specs.declared.Found.TheVariants.{Number, Nobody}

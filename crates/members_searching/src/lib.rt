@@ -1,11 +1,14 @@
 // What is looked up in the list by the order of its numbers.
-ghost use Rattle.laws.specs.Usual.{◌≡◌, min};
+#![tactic(auto)]
+
+ghost use Rattle.std.specs.Prelude.{◌≡◌};
+ghost use Rattle.laws.specs.Usual.{min};
 ghost use Rattle.members.specs.Members.{numbers_of, is_empty, next_after, smallest};
 ghost use Rattle.members_searching.specs.Search.{first_from, number_or};
 
 use members::Members;
 
-#[derive(Drop)]
+#[derive(Clone, Copy)]
 enum Found {
     Number(u8),
     Nobody,

@@ -1,5 +1,6 @@
 -- No message code is one of the four codes of the base. Assumes nothing.
-use Rattle.laws.specs.Usual.{◌≡◌, refl, sym, ap, ◌∙◌, Bool, true, false, false≢true, ℕ, eqb}
+use Rattle.std.specs.Prelude.{◌≡◌}
+use Rattle.laws.specs.Usual.{refl, sym, ap, ◌∙◌, Bool, true, false, false≢true, ℕ, eqb}
 use Rattle.std.proofs.Common.{eqb-true}
 use Rattle.frame.specs.Codes.{code_of, is_known}
 use Rattle.message.specs.Codes.{is_message}

@@ -1,5 +1,6 @@
 -- E2 of paper 02: the message codes, "B-9 in source document 003".
-use Rattle.laws.specs.Usual.{Bool, ◌&&◌, ◌||◌, ℕ, eqb, leb}
+use Rattle.std.specs.Prelude.{◌&&◌, ◌||◌}
+use Rattle.laws.specs.Usual.{Bool, ℕ, eqb, leb}
 use Rattle.frame_writing.specs.Writing.{everyone}
 
 abbrev pub is_within : ℕ → ℕ → ℕ → Bool

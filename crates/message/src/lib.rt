@@ -1,15 +1,16 @@
 // Messages, one to one and to all: what one is, what becomes of it, and what is answered.
+#![tactic(auto)]
 use frame::Refusal;
 use station::Heard;
 
 // An allowed cycle, in ticks: 0 to 65,535.
 #[repr(C)]
-#[derive(Drop)]
+#[derive(Clone, Copy)]
 pub struct Cycle(pub u16);
 
 // What a start takes beside the settings of the station: the allowed cycle (RCT), and the version of our sequence numbers (V_SEQ).
 #[repr(C)]
-#[derive(Drop)]
+#[derive(Clone, Copy)]
 pub struct Allowance {
     pub cycle: Cycle,
     pub version: u32,
@@ -17,7 +18,7 @@ pub struct Allowance {
 
 // A message as the host hands it in, its data aside.
 #[repr(C)]
-#[derive(Drop)]
+#[derive(Clone, Copy)]
 pub struct Message {
     // DNA, 255 for all
     pub destination: u8,
@@ -32,7 +33,7 @@ pub struct Message {
 }
 
 // The fields of a message frame that are looked at.
-#[derive(Drop)]
+#[derive(Clone, Copy)]
 pub struct Letter {
     // SNA
     pub source: u8,
@@ -46,7 +47,7 @@ pub struct Letter {
 }
 
 // What the host is told of a message that is handed over to it. Its data are the last octets of the frame.
-#[derive(Drop)]
+#[derive(Clone, Copy)]
 pub struct Delivery {
     pub source: u8,
     pub message: Message,
@@ -55,7 +56,7 @@ pub struct Delivery {
 
 // A confirmation: the status of a message, its source, its code and its numbers.
 #[repr(C)]
-#[derive(Drop)]
+#[derive(Clone, Copy)]
 pub struct Confirmation {
     // R_STS
     pub status: u8,
@@ -70,7 +71,7 @@ pub struct Confirmation {
 }
 
 // What became of the message in the slot.
-#[derive(Drop)]
+#[derive(Clone, Copy)]
 pub enum Mail {
     Nothing,
     Waiting,
@@ -81,7 +82,7 @@ pub enum Mail {
 }
 
 // The message that waits to go or to be confirmed, or what became of the last one.
-#[derive(Drop)]
+#[derive(Clone, Copy)]
 pub struct Slot {
     pub mail: Mail,
     pub message: Message,
@@ -98,7 +99,7 @@ pub struct Slot {
 }
 
 // A message for us, by its version and its number.
-#[derive(Drop)]
+#[derive(Clone, Copy)]
 pub enum Judged {
     Abnormal,
     OtherVersion,
@@ -107,7 +108,7 @@ pub enum Judged {
 }
 
 // What handing in a message answers.
-#[derive(Drop)]
+#[derive(Clone, Copy)]
 pub enum Posted {
     Off,
     Done,
@@ -115,7 +116,7 @@ pub enum Posted {
 }
 
 // What hearing answers: what the station of the base answers, or a message that is handed over.
-#[derive(Drop)]
+#[derive(Clone, Copy)]
 pub enum Received {
     Told(Heard),
     Message(Delivery),

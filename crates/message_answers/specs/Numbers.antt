@@ -5,11 +5,11 @@ use Rattle.boundary_answers.specs.declared.Answer.{Answer}
 use Rattle.boundary_told.specs.Told.{heard_told}
 use Rattle.message.specs.declared.Delivery.{Delivery}
 use Rattle.message.specs.declared.Posted.{Posted}
-use Rattle.message.specs.declared.Posted.TheVariants as posted
 use Rattle.message.specs.declared.Received.{Received}
-use Rattle.message.specs.declared.Received.TheVariants as received
 use Rattle.message_rules.specs.Rules.State.{no_message}
 use Rattle.message_answers.specs.declared.Reception.{Reception}
+use Rattle.message.specs.declared.Posted.TheVariants as posted
+use Rattle.message.specs.declared.Received.TheVariants as received
 
 abbrev pub posted_answer : Posted → Answer
 posted_answer posted.Off = off_answer

@@ -1,5 +1,7 @@
 // The answers about messages as numbers, for C.
-ghost use Rattle.laws.specs.Usual.{◌≡◌, List, ℕ};
+#![tactic(auto)]
+ghost use Rattle.std.specs.Prelude.{◌≡◌};
+ghost use Rattle.laws.specs.Usual.{List, ℕ};
 ghost use Rattle.message.specs.declared.Received.TheVariants.{Message as HandedOver};
 ghost use Rattle.message_answers.specs.Numbers.{received_told};
 ghost use Rattle.message_rules.specs.Rules.State.{no_message};
@@ -12,7 +14,7 @@ const MESSAGE: u8 = 5;
 
 // What a hearing answers. Where no message is handed over, its message is all zeros.
 #[repr(C)]
-#[derive(Drop)]
+#[derive(Clone, Copy)]
 pub struct Reception {
     pub answer: Answer,
     pub message: Message,

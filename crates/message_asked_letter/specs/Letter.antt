@@ -1,5 +1,6 @@
 -- Whether a message goes, by the core and the outgoing side alone, and what follows where it goes. Assumes nothing.
-use Rattle.laws.specs.Usual.{◌≡◌, refl, sym, ap, ◌∙◌, Bool, true, false, false≢true, ◌&&◌, ◌||◌, List, ℕ, ◌≤◌, eqb, leb}
+use Rattle.std.specs.Prelude.{◌≡◌, ◌&&◌, ◌||◌, ◌≤◌}
+use Rattle.laws.specs.Usual.{refl, sym, ap, ◌∙◌, Bool, true, false, false≢true, List, ℕ, eqb, leb}
 use Rattle.std.proofs.Common.{leb-true}
 use Rattle.boundary_answers.specs.Numbers.{frame_answer}
 use Rattle.boundary_answers.specs.declared.Answer.{Answer}
@@ -13,7 +14,7 @@ use Rattle.message.specs.declared.Letter.{Letter}
 use Rattle.message_frames.specs.Frames.{whole_length}
 use Rattle.message_going.specs.Going.{may_go, goes_by}
 use Rattle.message_places.specs.Outgoing.{outgoing_of}
-use Rattle.message_rules.specs.Outcomes.{goes_ready}
+use Rattle.message_rules.proofs.Outcomes.{goes_ready}
 use Rattle.message_rules.specs.Rules.Again.{is_waiting, is_unconfirmed, is_open, is_due, is_to_go}
 use Rattle.message_rules.specs.Rules.Cycle.{is_measured, cycle_lets, is_writable, is_before_blocks, goes}
 use Rattle.message_rules.specs.Rules.State.{Messages}

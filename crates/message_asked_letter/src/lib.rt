@@ -1,5 +1,7 @@
 // A message that an asking writes in the place of the block that is due.
-ghost use Rattle.laws.specs.Usual.{◌≡◌, true, List, [], ◌≤◌, length};
+#![tactic(auto)]
+ghost use Rattle.std.specs.Prelude.{◌≡◌, ◌≤◌};
+ghost use Rattle.laws.specs.Usual.{true, List, [], length};
 ghost use Rattle.boundary_core.specs.Crossing.{station_of};
 ghost use Rattle.boundary_places.specs.Places.{core_in};
 ghost use Rattle.boundary_told.specs.Told.{asked_told};

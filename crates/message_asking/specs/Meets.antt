@@ -1,5 +1,6 @@
 -- The contract of the code, of what an asking is, whatever is known of the sources. Assumes nothing.
-use Rattle.laws.specs.Usual.{◌≡◌, refl, sym, ap, ap₂, subst, ◌∙◌, Bool, true, false, cond, not, ◌&&◌, ◌||◌, List, ℕ, length}
+use Rattle.std.specs.Prelude.{◌≡◌, ◌&&◌, ◌||◌}
+use Rattle.laws.specs.Usual.{refl, sym, ap, ap₂, subst, ◌∙◌, Bool, true, false, cond, not, List, ℕ, length}
 use Rattle.boundary_answers.specs.Numbers.{frame_answer, refused_answer}
 use Rattle.boundary_answers.specs.declared.Answer.{Answer}
 use Rattle.boundary_core.specs.Crossing.{core_of, station_in}
@@ -15,7 +16,7 @@ use Rattle.message_places.specs.Laws.{outgoing_same}
 use Rattle.message_places.specs.Outgoing.{outgoing_of, messages_of}
 use Rattle.message_places.specs.Owed.{owed_in, kept_owed}
 use Rattle.message_places.specs.Places.{outgoing_in, kept_outgoing, messages_in}
-use Rattle.message_rules.specs.Receiving.Owed.{turned_owes}
+use Rattle.message_rules.proofs.Receiving.Owed.{turned_owes}
 use Rattle.message_rules.specs.Rules.Again.{turned, gone, letter_going}
 use Rattle.message_rules.specs.Rules.Calls.{Both, takes, Asking, letter_asked, carried_by}
 use Rattle.message_rules.specs.Rules.Confirming.{Carried, carried_in}
@@ -23,7 +24,6 @@ use Rattle.message_rules.specs.Rules.Cycle.{goes}
 use Rattle.message_rules.specs.Rules.Posting.{mail_right}
 use Rattle.message_rules.specs.Rules.State.{Sources}
 use Rattle.message_taking.specs.Taking.{is_holder, taken_asking}
-use Rattle.station.specs.Rules.Asking as base
 use Rattle.station.specs.Rules.Asking.{lent_right}
 use Rattle.station.specs.Rules.Calls.{ask}
 use Rattle.station.specs.Types.{Members}
@@ -31,6 +31,7 @@ use Rattle.station.specs.declared.Asked.TheVariants.{Octets, Refused}
 use Rattle.station.specs.declared.Station.{Station}
 use Rattle.message_asking.specs.Asking.{carried_where, both_in, block_in, ask_in}
 use Rattle.message_asking.specs.Token.{is_ended, tells}
+use Rattle.station.specs.Rules.Asking as base
 
 -- what is lent before the call: the core, the outgoing side and what is owed
 module _ (core outgoing owed : List ℕ) where

@@ -1,5 +1,6 @@
 -- Our token frame, by what the base's asking answers and leaves: what is carried in it, what is told of it, and its size. Assumes nothing.
-use Rattle.laws.specs.Usual.{◌≡◌, refl, sym, ap, ap₂, subst, ◌∙◌, Bool, true, false, false≢true, cond, ◌&&◌, List, ◌++◌, ℕ, ◌≤◌, arith, length, drop, eqb, leb}
+use Rattle.std.specs.Prelude.{◌≡◌, ◌&&◌, ◌++◌, ◌≤◌}
+use Rattle.laws.specs.Usual.{refl, sym, ap, ap₂, subst, ◌∙◌, Bool, true, false, false≢true, cond, List, ℕ, arith, length, drop, eqb, leb}
 use Rattle.std.proofs.Common.{leb-true, length-append, length-drop}
 use Rattle.area.specs.Areas.{memory_octets}
 use Rattle.block.specs.Blocks.{start_of}
@@ -11,14 +12,15 @@ use Rattle.boundary_core.specs.declared.Core.{Core}
 use Rattle.boundary_told.specs.Told.{asked_told, written_told}
 use Rattle.frame.specs.declared.Fields.{Fields}
 use Rattle.frame_reading.specs.Reading.{data_size}
-use Rattle.frame_round_trip.specs.SentBack.{block_size}
+use Rattle.frame_round_trip.proofs.SentBack.{block_size}
 use Rattle.frame_writing.specs.Lengths.{length_frame}
 use Rattle.frame_writing.specs.Writing.{whole_length, frame_of, fits, output_of}
 use Rattle.laws.specs.Tests.{first, second}
 use Rattle.message_rules.specs.Rules.Calls.{Both, carried_by, answer_by}
 use Rattle.message_rules.specs.Rules.Confirming.{Carried, carried_in}
 use Rattle.message_taking.specs.Taking.{is_holder, is_frame, wrote_token}
-use Rattle.station.specs.Outcomes.AskCases.{SendCases, AskCases, refuses, sends, triggers, requests, begins, passes, ask_cases}
+use Rattle.station.proofs.Outcomes.AskCases.{ask_cases}
+use Rattle.station.specs.Outcomes.AskCases.{SendCases, AskCases, refuses, sends, triggers, requests, begins, passes}
 use Rattle.station.specs.Rules.Asking.{Asking, ask_of, is_last, next_block, next_station}
 use Rattle.station.specs.Rules.State.{is_participating, holds}
 use Rattle.station.specs.declared.Asked.{Asked}

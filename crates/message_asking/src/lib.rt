@@ -1,6 +1,8 @@
 // Asking of a station with messages, on what C lends: a message that goes in the place of the block that is due, or what the base writes, with the oldest
 // confirmation in our token frame. A refused asking touches nothing.
-ghost use Rattle.laws.specs.Usual.{◌≡◌, true, cond, ◌≤◌, length};
+#![tactic(auto)]
+ghost use Rattle.std.specs.Prelude.{◌≡◌, ◌≤◌};
+ghost use Rattle.laws.specs.Usual.{true, cond, length};
 ghost use Rattle.boundary_answers.specs.Numbers.{frame_answer};
 ghost use Rattle.boundary_core.specs.Crossing.{core_of};
 ghost use Rattle.boundary_lists.specs.Lists.{members_in};

@@ -1,5 +1,6 @@
 -- The message part as it begins: an outgoing side, nothing owed, and no source known.
-use Rattle.laws.specs.Usual.{◌≡◌, sym, Bool, cond, List, [], ℕ, length, replicate}
+use Rattle.std.specs.Prelude.{◌≡◌}
+use Rattle.laws.specs.Usual.{sym, Bool, cond, List, [], ℕ, length, replicate}
 use Rattle.message_owed.specs.Laws.{owed_same}
 use Rattle.message_places.specs.Laws.{outgoing_same}
 use Rattle.message_places.specs.Outgoing.{outgoing_of, messages_of}

@@ -1,5 +1,7 @@
 // The message part as it begins: an outgoing side, nothing owed, and no source known.
-ghost use Rattle.laws.specs.Usual.{◌≡◌, [], replicate};
+#![tactic(auto)]
+ghost use Rattle.std.specs.Prelude.{◌≡◌};
+ghost use Rattle.laws.specs.Usual.{[], replicate};
 ghost use Rattle.message_beginning.specs.Begun.{begun_where};
 ghost use Rattle.message_places.specs.Outgoing.{outgoing_of};
 ghost use Rattle.message_places.specs.Owed.{owed_in, kept_owed};

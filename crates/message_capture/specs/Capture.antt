@@ -3,14 +3,14 @@ use Rattle.laws.specs.Usual.{Bool, true, false, cond, List, ℕ, length}
 use Rattle.frame.specs.Octets.{long_at}
 use Rattle.frame.specs.Positions.{TFL}
 use Rattle.frame.specs.declared.Refusal.{Refusal}
-use Rattle.frame.specs.declared.Refusal.TheVariants as refusals
 use Rattle.frame_reading.specs.Reading.{read_of}
 use Rattle.frame_reading.specs.declared.Read.{Read}
-use Rattle.frame_reading.specs.declared.Read.TheVariants as reads
 use Rattle.message.specs.declared.Letter.{Letter}
 use Rattle.message_frames.specs.Frames.{is_letter_in, letter_in, addressed, measured}
 use Rattle.message_capture.specs.declared.Capture.{Capture}
 use Rattle.message_capture.specs.declared.Capture.TheVariants.{Frame, Message, Refused}
+use Rattle.frame.specs.declared.Refusal.TheVariants as refusals
+use Rattle.frame_reading.specs.declared.Read.TheVariants as reads
 
 -- the refusal where the test fails, else what comes after it: "the first that applies"
 abbrev pub need : Bool → Refusal → Capture → Capture

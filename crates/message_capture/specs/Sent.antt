@@ -1,5 +1,6 @@
 -- A message frame that we write is read as the message that it is. Assumes nothing.
-use Rattle.laws.specs.Usual.{◌≡◌, ap, ◌∙◌, true, List, ℕ, ◌≤◌, length}
+use Rattle.std.specs.Prelude.{◌≡◌, ◌≤◌}
+use Rattle.laws.specs.Usual.{ap, ◌∙◌, true, List, ℕ, length}
 use borrow.Author.Tests.{eqb-true}
 use Rattle.frame.specs.Octets.{long_at}
 use Rattle.frame.specs.Positions.{TFL}

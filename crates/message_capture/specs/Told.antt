@@ -1,5 +1,6 @@
 -- A message, told by its code and by refusals 1, 2 and 3, which let it through. Assumes nothing.
-use Rattle.laws.specs.Usual.{◌≡◌, refl, ap, Bool, true, false, ◌&&◌, List, ℕ, ◌<◌, ◌≤◌, length, leb}
+use Rattle.std.specs.Prelude.{◌≡◌, ◌&&◌, ◌<◌, ◌≤◌}
+use Rattle.laws.specs.Usual.{refl, ap, Bool, true, false, List, ℕ, length, leb}
 use borrow.Author.Tests.{lt-leb, le-leb, leb-true}
 use Rattle.frame.specs.Octets.{word_at}
 use Rattle.frame.specs.Positions.{TCD}

@@ -1,5 +1,7 @@
 // What octets from the wire are, whoever hears them: a frame of the base, a message, or refused.
-ghost use Rattle.laws.specs.Usual.{◌≡◌, ◌&&◌, ◌≤◌, length, leb};
+#![tactic(auto)]
+ghost use Rattle.std.specs.Prelude.{◌≡◌, ◌&&◌, ◌≤◌};
+ghost use Rattle.laws.specs.Usual.{length, leb};
 ghost use Rattle.frame_reading.specs.Reading.{marked, long};
 ghost use Rattle.message_frames.specs.Frames.{is_letter_in};
 ghost use Rattle.message_capture.specs.Capture.{letter_read, captured};
@@ -9,7 +11,7 @@ use frame_reading::{Read, TCD, TFL, is_station, long_at, word_at};
 use message::Letter;
 use message_reading::{is_measured, letter_in};
 
-#[derive(Drop)]
+#[derive(Clone, Copy)]
 pub enum Capture {
     Frame(Fields),
     // TFL, and the other fields of a message that are looked at.

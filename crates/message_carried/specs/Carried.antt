@@ -1,5 +1,6 @@
 -- The oldest confirmation put into a frame, by its outcomes: nothing is owed, it does not fit, or it is put in. Assumes nothing.
-use Rattle.laws.specs.Usual.{◌≡◌, refl, sym, ap, ◌∙◌, Bool, true, false, false≢true, cond, List, [], ◌∷◌, ◌++◌, ℕ, ◌+◌, length, take, drop, leb}
+use Rattle.std.specs.Prelude.{◌≡◌, ◌∷◌, ◌++◌, ◌+◌}
+use Rattle.laws.specs.Usual.{refl, sym, ap, ◌∙◌, Bool, true, false, false≢true, cond, List, [], ℕ, length, take, drop, leb}
 use Rattle.message.specs.declared.Confirmation.{Confirmation}
 use Rattle.message_frames.specs.Confirmations.{carrying}
 use Rattle.message_owed.specs.Laws.{owed_same}

@@ -1,5 +1,7 @@
 // The oldest confirmation owed, put into our token frame.
-ghost use Rattle.laws.specs.Usual.{◌≡◌, ◌≤◌, length};
+#![tactic(auto)]
+ghost use Rattle.std.specs.Prelude.{◌≡◌, ◌≤◌};
+ghost use Rattle.laws.specs.Usual.{length};
 ghost use Rattle.message_places.specs.Owed.{owed_in, kept_owed};
 ghost use Rattle.message_rules.specs.Rules.Confirming.{carried_in};
 

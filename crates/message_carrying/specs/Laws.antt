@@ -1,5 +1,6 @@
 -- Laws of putting one list into another, from the end to the front. Assumes nothing.
-use Rattle.laws.specs.Usual.{◌≡◌, sym, ap, ap₂, ◌∙◌, List, [], ◌∷◌, ◌++◌, ℕ, suc, ◌+◌, ◌-◌, ◌<◌, ◌≤◌, arith, length, get_or, take, drop, set}
+use Rattle.std.specs.Prelude.{◌≡◌, ◌∷◌, ◌++◌, ◌+◌, ◌-◌, ◌<◌, ◌≤◌}
+use Rattle.laws.specs.Usual.{sym, ap, ap₂, ◌∙◌, List, [], ℕ, suc, arith, length, get_or, take, drop, set}
 use Rattle.std.proofs.Common.{append_assoc, length-append, length-drop, take-suc, drop-cons, get_or-take, length-take-le, take-take, drop_at}
 use Rattle.std.proofs.Math.Seq.{append_snoc}
 use Rattle.std.proofs.lemmas.List.{set_at, take-append-le, drop-append-le}

@@ -1,5 +1,6 @@
 // The message codes.
-ghost use Rattle.laws.specs.Usual.{◌≡◌};
+#![tactic(auto)]
+ghost use Rattle.std.specs.Prelude.{◌≡◌};
 ghost use Rattle.message.specs.Codes.{is_message};
 
 // "the message codes of B-9 in source document 003": a match with single codes and ranges (paper 02, E2).

@@ -1,7 +1,9 @@
 // Reading the confirmation in a cyclic frame.
+#![tactic(auto)]
 mod position;
 
-ghost use Rattle.laws.specs.Usual.{◌≡◌, ◌≤◌, length};
+ghost use Rattle.std.specs.Prelude.{◌≡◌, ◌≤◌};
+ghost use Rattle.laws.specs.Usual.{length};
 ghost use Rattle.message_frames.specs.Confirmations.{is_set, confirms, confirmation_in};
 
 use frame_reading::{BSIZE, long_at, word_at};

@@ -1,6 +1,8 @@
 // The outgoing side of messages after so many ticks, none of which is a taking, in one step. It does not depend on what is owed and what is known of the
 // sources.
-ghost use Rattle.laws.specs.Usual.{◌≡◌, cond, List};
+#![tactic(auto)]
+ghost use Rattle.std.specs.Prelude.{◌≡◌};
+ghost use Rattle.laws.specs.Usual.{cond, List};
 ghost use Rattle.message.specs.declared.Confirmation.{Confirmation};
 ghost use Rattle.message_places.specs.Outgoing.{messages_of};
 ghost use Rattle.message_quiet.specs.Counted.{ticks_after};

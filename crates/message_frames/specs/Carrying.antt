@@ -1,6 +1,7 @@
 -- A frame with a confirmation in it, octet by octet: the fields that the base reads are those of the frame without it, but for its length, and so are the
 -- data; and the confirmation reads back. Assumes nothing.
-use Rattle.laws.specs.Usual.{◌≡◌, refl, sym, ap, ap₂, ◌∙◌, Bool, true, false, not, ◌&&◌, ◌||◌, List, ◌++◌, ℕ, ◌+◌, ◌-◌, ◌*◌, ◌<◌, ◌≤◌, arith, length, take, drop, eqb, ltb}
+use Rattle.std.specs.Prelude.{◌≡◌, ◌&&◌, ◌||◌, ◌++◌, ◌+◌, ◌-◌, ◌*◌, ◌<◌, ◌≤◌}
+use Rattle.laws.specs.Usual.{refl, sym, ap, ap₂, ◌∙◌, Bool, true, false, not, List, ℕ, arith, length, take, drop, eqb, ltb}
 use Rattle.std.proofs.Common.{append_assoc, length-append, length-drop, drop_at, get_or-append-add, get_or-take, length-take-le, le-leb, ltb-true}
 use Rattle.std.proofs.Math.ListN.{get_or-append}
 use Rattle.std.proofs.lemmas.Bool.{eqb-false, not-true}
@@ -8,7 +9,7 @@ use Rattle.copying.specs.Laws.{length_pasted}
 use Rattle.copying.specs.Places.{paste_in, paste_outside, drop_behind}
 use Rattle.frame.specs.Octets.{octet_at, word_at, long_at}
 use Rattle.frame.specs.Positions.{TFL, BSIZE}
-use Rattle.frame_round_trip.specs.Digits.{word_back, long_back}
+use Rattle.frame_round_trip.proofs.Digits.{word_back, long_back}
 use Rattle.laws.specs.Tests.{both, first, second}
 use Rattle.message.specs.declared.Confirmation.{Confirmation}
 use Rattle.message_frames.specs.Confirmations.{confirmation_octets, raised, flag, lengthened, flagged, carrying, is_set, confirms, confirmation_in}

@@ -1,5 +1,6 @@
 -- Clause 10.2 of JEM 1479: a confirmation in a cyclic frame. "Receipt is confirmed in the cyclic frames."
-use Rattle.laws.specs.Usual.{Bool, ◌&&◌, List, [], ◌∷◌, ◌++◌, ℕ, ◌+◌, ◌-◌, ◌/◌, ◌%◌, length, take, drop, eqb, leb}
+use Rattle.std.specs.Prelude.{◌&&◌, ◌∷◌, ◌++◌, ◌+◌, ◌-◌, ◌/◌, ◌%◌}
+use Rattle.laws.specs.Usual.{Bool, List, [], ℕ, length, take, drop, eqb, leb}
 use Rattle.copying.specs.Pasted.{pasted}
 use Rattle.frame.specs.Octets.{octet_at, word_at, long_at}
 use Rattle.frame.specs.Positions.{header_length, TFL, BSIZE}

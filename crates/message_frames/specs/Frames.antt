@@ -1,5 +1,6 @@
 -- E2 of paper 02, with Tables 20 and 24 to 26 of JEM 1479: the frame that a message goes in.
-use Rattle.laws.specs.Usual.{Bool, cond, ◌&&◌, List, ◌++◌, ℕ, ◌+◌, ◌-◌, ◌/◌, ◌%◌, take, drop, leb}
+use Rattle.std.specs.Prelude.{◌&&◌, ◌++◌, ◌+◌, ◌-◌, ◌/◌, ◌%◌}
+use Rattle.laws.specs.Usual.{Bool, cond, List, ℕ, take, drop, leb}
 use Rattle.frame.specs.Octets.{octet_at, word_at, long_at}
 use Rattle.frame.specs.Positions.{header_length, SNA, DNA, TCD, BSIZE}
 use Rattle.frame_reading.specs.Reading.{is_station}

@@ -1,10 +1,11 @@
 -- A message frame that we write reads back to the same fields and the same data. Assumes nothing.
-use Rattle.laws.specs.Usual.{◌≡◌, refl, sym, ap, ◌∙◌, true, ◌&&◌, List, ◌++◌, ℕ, ◌+◌, ◌-◌, ◌≤◌, arith, length, take, drop, leb}
+use Rattle.std.specs.Prelude.{◌≡◌, ◌&&◌, ◌++◌, ◌+◌, ◌-◌, ◌≤◌}
+use Rattle.laws.specs.Usual.{refl, sym, ap, ◌∙◌, true, List, ℕ, arith, length, take, drop, leb}
 use Rattle.std.proofs.Common.{length-append, drop_at, length-take-le, take_at, le-leb, eq-eqb}
 use Rattle.frame.specs.Octets.{word_at, long_at}
 use Rattle.frame.specs.Positions.{TFL, TCD}
 use Rattle.frame_reading.specs.Reading.{whole, marked, long}
-use Rattle.frame_round_trip.specs.Digits.{word_back, long_back}
+use Rattle.frame_round_trip.proofs.Digits.{word_back, long_back}
 use Rattle.laws.specs.Tests.{both}
 use Rattle.message.specs.declared.Letter.{Letter}
 use Rattle.message_frames.specs.Frames.{letter_in, measured, whole_length, header_of, frame_of, output_of}

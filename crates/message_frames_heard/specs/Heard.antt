@@ -1,6 +1,7 @@
 -- What a frame of the base does to the message part: its confirmation, and then the taking that it brings; or all is forgotten, where it turned us off.
 -- Assumes nothing.
-use Rattle.laws.specs.Usual.{◌≡◌, refl, ap, ◌∙◌, Bool, true, false, cond, ◌&&◌, List, ℕ, ◌-◌, ◌≤◌, arith, length, eqb, leb}
+use Rattle.std.specs.Prelude.{◌≡◌, ◌&&◌, ◌-◌, ◌≤◌}
+use Rattle.laws.specs.Usual.{refl, ap, ◌∙◌, Bool, true, false, cond, List, ℕ, arith, length, eqb, leb}
 use Rattle.std.proofs.Math.Bool.{and_assoc}
 use Rattle.std.proofs.Common.{leb-true}
 use Rattle.boundary_core.specs.Crossing.{phase_of, core_of, station_kept}
@@ -15,12 +16,12 @@ use Rattle.message_rules.specs.Rules.Again.{turned}
 use Rattle.message_rules.specs.Rules.Calls.{frame_heard, takes, turns_off}
 use Rattle.message_rules.specs.Rules.Confirming.{confirmed, is_cyclic_answer}
 use Rattle.message_rules.specs.Rules.State.{Messages, no_messages}
-use Rattle.station.specs.Rules.Calls as base
 use Rattle.station.specs.Rules.Hearing.{hear_of}
 use Rattle.station.specs.Rules.State.{is_participating}
 use Rattle.station.specs.declared.Heard.{Heard}
-use Rattle.station.specs.declared.Heard.TheVariants as heard
 use Rattle.station.specs.declared.Station.{Station}
+use Rattle.station.specs.Rules.Calls as base
+use Rattle.station.specs.declared.Heard.TheVariants as heard
 
 -- the message part after it
 abbrev pub messages_heard : Station → Messages → List ℕ → List ℕ → List ℕ → Messages

@@ -1,5 +1,7 @@
 // A frame of the base heard by a station with messages, on its arrays, all changed in place. The ring part is what the base's hearing leaves.
-ghost use Rattle.laws.specs.Usual.{◌≡◌, not, ◌&&◌, List};
+#![tactic(auto)]
+ghost use Rattle.std.specs.Prelude.{◌≡◌, ◌&&◌};
+ghost use Rattle.laws.specs.Usual.{not, List};
 ghost use Rattle.boundary_core.specs.Crossing.{core_of, phase_of, station_in};
 ghost use Rattle.boundary_lists.specs.Lists.{members_in};
 ghost use Rattle.boundary_places.specs.Places.{core_in, kept};

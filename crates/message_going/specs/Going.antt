@@ -1,5 +1,6 @@
 -- When a message goes, by the panel and the outgoing side: all that `goes` tests but whether a block is due and none of the turn has been sent.
-use Rattle.laws.specs.Usual.{◌≡◌, Bool, not, ◌&&◌, eqb}
+use Rattle.std.specs.Prelude.{◌≡◌, ◌&&◌}
+use Rattle.laws.specs.Usual.{Bool, not, eqb}
 use Rattle.std.proofs.Math.Bool.{and_assoc}
 use Rattle.message_places.specs.Outgoing.{outgoing_of}
 use Rattle.message_places.specs.declared.Outgoing.{Outgoing}

@@ -1,5 +1,7 @@
 // Whether a message may go, and how the outgoing side begins.
-ghost use Rattle.laws.specs.Usual.{◌≡◌, false, max};
+#![tactic(auto)]
+ghost use Rattle.std.specs.Prelude.{◌≡◌};
+ghost use Rattle.laws.specs.Usual.{false, max};
 ghost use Rattle.message_going.specs.Going.{may_go};
 ghost use Rattle.message_places.specs.Outgoing.{outgoing_of};
 ghost use Rattle.message_rules.specs.Rules.Cycle.{is_writable};

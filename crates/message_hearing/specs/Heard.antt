@@ -1,5 +1,6 @@
 -- Hearing by a station with messages: a message, or a frame of the base. Assumes nothing.
-use Rattle.laws.specs.Usual.{◌≡◌, ap, true, false, List, ℕ, ◌≤◌, length, leb}
+use Rattle.std.specs.Prelude.{◌≡◌, ◌≤◌}
+use Rattle.laws.specs.Usual.{ap, true, false, List, ℕ, length, leb}
 use Rattle.std.proofs.Common.{leb-true}
 use Rattle.boundary_told.specs.Told.{route_read}
 use Rattle.frame_reading.specs.Reading.{whole}
@@ -8,13 +9,13 @@ use Rattle.message.specs.declared.Received.{Received}
 use Rattle.message_answers.specs.Numbers.{received_told}
 use Rattle.message_receiving.specs.Laws.{answer_told}
 use Rattle.message_receiving.specs.Receiving.{received_answer}
-use Rattle.message_rules.specs.Ring.Buffers.{letter_unread}
+use Rattle.message_rules.proofs.Ring.Buffers.{letter_unread}
 use Rattle.message_rules.specs.Rules.Calls.{Hearing, hear_of, letter_heard, frame_heard, takes}
 use Rattle.message_rules.specs.Rules.Hearing.{is_letter, message_heard}
 use Rattle.message_rules.specs.Rules.State.{Messages}
+use Rattle.station.specs.declared.Station.{Station}
 use Rattle.station.specs.Rules.Calls as base
 use Rattle.station.specs.Rules.Hearing as ring
-use Rattle.station.specs.declared.Station.{Station}
 
 -- of a station and its message part
 abbrev pub hear_both : Station → Messages → List ℕ → List ℕ → List ℕ → Hearing

@@ -1,5 +1,6 @@
 // Hearing by a station with messages, on its arrays, all changed in place: a message, or a frame of the base.
-ghost use Rattle.laws.specs.Usual.{◌≡◌};
+#![tactic(auto)]
+ghost use Rattle.std.specs.Prelude.{◌≡◌};
 ghost use Rattle.boundary_core.specs.Crossing.{core_of, station_in};
 ghost use Rattle.boundary_lists.specs.Lists.{members_in};
 ghost use Rattle.boundary_places.specs.Places.{core_in, kept};

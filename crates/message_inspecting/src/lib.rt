@@ -1,5 +1,6 @@
 // What became of the message that was handed in last, told to the host.
-ghost use Rattle.laws.specs.Usual.{◌≡◌};
+#![tactic(auto)]
+ghost use Rattle.std.specs.Prelude.{◌≡◌};
 ghost use Rattle.message.specs.Words.{mail_number};
 ghost use Rattle.message_places.specs.Places.{outgoing_in};
 

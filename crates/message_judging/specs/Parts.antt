@@ -1,5 +1,6 @@
 -- The test of `speaks_of` by our version and the slot alone: the rest of a message part does not matter to it.
-use Rattle.laws.specs.Usual.{◌≡◌, refl, Bool, ◌&&◌, ℕ, eqb}
+use Rattle.std.specs.Prelude.{◌≡◌, ◌&&◌}
+use Rattle.laws.specs.Usual.{refl, Bool, ℕ, eqb}
 use Rattle.message.specs.declared.Confirmation.{Confirmation}
 use Rattle.message.specs.declared.Slot.{Slot}
 use Rattle.message_rules.specs.Rules.Again.{is_unconfirmed}

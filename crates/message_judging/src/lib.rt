@@ -1,5 +1,7 @@
 // Judging a message that came for us, its confirmation, and which message a confirmation speaks of.
-ghost use Rattle.laws.specs.Usual.{◌≡◌, cond};
+#![tactic(auto)]
+ghost use Rattle.std.specs.Prelude.{◌≡◌};
+ghost use Rattle.laws.specs.Usual.{cond};
 ghost use Rattle.message.specs.Codes.{to_all};
 ghost use Rattle.message.specs.Words.{status_of, mail_number};
 ghost use Rattle.message_judging.specs.Parts.{speaks_by};

@@ -1,5 +1,7 @@
 // The outgoing side taken out of the numbers that C keeps, and put into them in place.
-ghost use Rattle.laws.specs.Usual.{◌≡◌, length};
+#![tactic(auto)]
+ghost use Rattle.std.specs.Prelude.{◌≡◌};
+ghost use Rattle.laws.specs.Usual.{length};
 ghost use Rattle.message_places.specs.Places.{mail_at, mail_in, message_in, slot_in, outgoing_in, with_mail, kept_outgoing};
 
 use low_parts::{flag_of, octet_of, octets_of, with_flag, with_octet, with_octets};

@@ -1,24 +1,25 @@
 -- What the rules say of a message, by the tests. Assumes nothing.
-use Rattle.laws.specs.Usual.{◌≡◌, refl, sym, Bool, true, false, cond, not, ◌&&◌, false≢true, ℕ}
+use Rattle.std.specs.Prelude.{◌≡◌, ◌&&◌}
+use Rattle.laws.specs.Usual.{refl, sym, Bool, true, false, cond, not, false≢true, ℕ}
 use Rattle.boundary_answers.specs.Numbers.{off_answer, done_answer, refused_answer, heard_answer}
 use Rattle.boundary_core.specs.Crossing.{phase_of, station_of}
 use Rattle.boundary_core.specs.declared.Core.{Core}
-use Rattle.frame.specs.declared.Refusal.TheVariants as refusals
 use Rattle.laws.specs.Tests.{first, second}
 use Rattle.members.specs.Members.{is_listed}
 use Rattle.members.specs.declared.Members.{Members}
 use Rattle.message.specs.declared.Letter.{Letter}
-use Rattle.message.specs.declared.Received.TheVariants as received
 use Rattle.message_frames.specs.Frames.{addressed, measured}
 use Rattle.message_rules.specs.Rules.Hearing.{need, refused, unchanged, letter_heard, taken}
 use Rattle.message_rules.specs.Rules.State.{Messages, no_messages}
 use Rattle.station.specs.Rules.Starting.{stop_of}
 use Rattle.station.specs.Rules.State.{is_off, is_participating, stopped}
-use Rattle.station.specs.declared.Heard.TheVariants as heard
 use Rattle.station.specs.declared.Phase.{Phase}
 use Rattle.station.specs.declared.Phase.TheVariants.{Off, Listening, Startup, Joining, Participating}
 use Rattle.station.specs.declared.Station.{Station}
 use Rattle.message_letter_tests.specs.Tests.{is_taken_by, turns_off_by, is_stranger_by, is_for_us_by, is_received_by, passed_by}
+use Rattle.frame.specs.declared.Refusal.TheVariants as refusals
+use Rattle.message.specs.declared.Received.TheVariants as received
+use Rattle.station.specs.declared.Heard.TheVariants as heard
 
 -- an off station does not participate
 in_on : (phase : Phase) → is_participating phase ≡ true → is_off phase ≡ false

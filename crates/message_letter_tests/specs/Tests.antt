@@ -1,13 +1,14 @@
 -- A message that was heard, by the core and what the list says of its source.
-use Rattle.laws.specs.Usual.{Bool, cond, not, ◌&&◌, ◌||◌, ℕ, eqb}
+use Rattle.std.specs.Prelude.{◌&&◌, ◌||◌}
+use Rattle.laws.specs.Usual.{Bool, cond, not, ℕ, eqb}
 use Rattle.boundary_core.specs.Crossing.{phase_of}
 use Rattle.boundary_core.specs.declared.Core.{Core}
-use Rattle.frame.specs.declared.Refusal.TheVariants as refusals
 use Rattle.message.specs.Codes.{to_all}
 use Rattle.message.specs.declared.Letter.{Letter}
 use Rattle.message_frames.specs.Frames.{addressed, measured}
 use Rattle.station.specs.Rules.State.{is_off, is_participating}
 use Rattle.station.specs.declared.Heard.{Heard}
+use Rattle.frame.specs.declared.Refusal.TheVariants as refusals
 use Rattle.station.specs.declared.Heard.TheVariants as heard
 
 -- 6

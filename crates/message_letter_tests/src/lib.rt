@@ -1,5 +1,6 @@
 // Tests of a message that was heard, on the core alone: the refusals, and whether it is for us.
-ghost use Rattle.laws.specs.Usual.{◌≡◌};
+#![tactic(auto)]
+ghost use Rattle.std.specs.Prelude.{◌≡◌};
 ghost use Rattle.boundary_answers.specs.Numbers.{heard_answer};
 ghost use Rattle.boundary_core.specs.Crossing.{phase_of};
 ghost use Rattle.message_letter_tests.specs.Tests.{is_taken_by, turns_off_by, is_for_us_by, is_received_by, passed_by};

@@ -1,9 +1,9 @@
 -- A message, told by what the reading of a header refuses it with: of octets with a message code it is 4 where 1, 2 and 3 let them through. Assumes nothing.
-use Rattle.laws.specs.Usual.{◌≡◌, refl, ap, Bool, true, false, ◌&&◌, List, ℕ, ◌<◌, length, eqb, leb}
+use Rattle.std.specs.Prelude.{◌≡◌, ◌&&◌, ◌<◌}
+use Rattle.laws.specs.Usual.{refl, ap, Bool, true, false, List, ℕ, length, eqb, leb}
 use Rattle.std.proofs.lemmas.Bool.{lt-leb}
 use Rattle.frame.specs.Octets.{word_at}
 use Rattle.frame.specs.Positions.{TCD}
-use Rattle.frame.specs.declared.Refusal.TheVariants as refusals
 use Rattle.frame_reading.specs.Reading.{need, whole, marked, long, read_header_of}
 use Rattle.frame_reading.specs.declared.Read.{Read}
 use Rattle.frame_reading.specs.declared.Read.TheVariants.{Frame, Refused}
@@ -12,6 +12,7 @@ use Rattle.message.specs.Apart.{message_unknown}
 use Rattle.message.specs.Codes.{is_message}
 use Rattle.message_rules.specs.Rules.Hearing.{is_letter}
 use Rattle.station.specs.Rules.Hearing.{lent_right}
+use Rattle.frame.specs.declared.Refusal.TheVariants as refusals
 
 abbrev pub is_refused_by_code : Read → Bool
 is_refused_by_code (Frame fields) = false

@@ -1,5 +1,6 @@
 // Whether octets that were heard are a message.
-ghost use Rattle.laws.specs.Usual.{◌≡◌};
+#![tactic(auto)]
+ghost use Rattle.std.specs.Prelude.{◌≡◌};
 ghost use Rattle.frame_reading.specs.Reading.{read_header_of};
 ghost use Rattle.message.specs.Codes.{is_message};
 ghost use Rattle.frame.specs.Octets.{word_at};

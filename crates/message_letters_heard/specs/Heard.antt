@@ -5,12 +5,12 @@ use Rattle.boundary_core.specs.declared.Core.{Core}
 use Rattle.boundary_places.specs.Places.{core_in}
 use Rattle.message.specs.declared.Confirmation.{Confirmation}
 use Rattle.message.specs.declared.Letter.{Letter}
-use Rattle.message.specs.declared.Received.TheVariants as received
 use Rattle.message_letter_tests.specs.Tests.{is_received_by, passed_by}
 use Rattle.message_places.specs.Places.{messages_in}
 use Rattle.message_receiving.specs.Receiving.{Taking, taken_by}
 use Rattle.message_rules.specs.Rules.Hearing.{Hearing, message_heard}
 use Rattle.message_rules.specs.Rules.State.{Sources}
+use Rattle.message.specs.declared.Received.TheVariants as received
 
 -- hearing these octets, of the core and the outgoing side in numbers, the list in arrays, what is owed in numbers, and what is known
 abbrev pub heard_in : List ℕ → List Bool → List ℕ → List ℕ → List ℕ → List ℕ → List ℕ → Sources → List ℕ → Hearing

@@ -1,5 +1,6 @@
 -- What the code does with a message that was heard is what the rules say. Assumes nothing.
-use Rattle.laws.specs.Usual.{◌≡◌, refl, sym, ap, ap₂, ◌∙◌, Bool, true, false, cond, List, ℕ}
+use Rattle.std.specs.Prelude.{◌≡◌}
+use Rattle.laws.specs.Usual.{refl, sym, ap, ap₂, ◌∙◌, Bool, true, false, cond, List, ℕ}
 use Rattle.boundary_core.specs.Crossing.{station_of, core_of}
 use Rattle.boundary_core.specs.declared.Core.{Core}
 use Rattle.boundary_places.specs.Places.{core_in, kept}
@@ -8,7 +9,6 @@ use Rattle.members.specs.declared.Members.{Members}
 use Rattle.message.specs.declared.Confirmation.{Confirmation}
 use Rattle.message.specs.declared.Letter.{Letter}
 use Rattle.message.specs.declared.Received.{Received}
-use Rattle.message.specs.declared.Received.TheVariants as received
 use Rattle.message_answers.specs.declared.Reception.{Reception}
 use Rattle.message_letter_tests.specs.Laws.{received_heard, passed_heard}
 use Rattle.message_letter_tests.specs.Tests.{turns_off_by, is_received_by, passed_by}
@@ -23,6 +23,7 @@ use Rattle.message_rules.specs.Rules.State.{Messages, Sources}
 use Rattle.message_sources.specs.Sources.{sources_in}
 use Rattle.station.specs.declared.Station.{Station}
 use Rattle.message_letters_heard.specs.Heard.{delivered_by}
+use Rattle.message.specs.declared.Received.TheVariants as received
 
 module _ (core : Core) (members : Members) (given : ℕ) (letter : Letter) (known : Bool) (is : is_listed members letter.source ≡ known)
     (owed : List Confirmation) (sources : Sources) (outgoing : Outgoing) where

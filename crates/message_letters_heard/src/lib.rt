@@ -1,6 +1,8 @@
 // A message heard, on the core in numbers, the list in arrays and the message part in numbers. A refused one touches none of them, but for number 6
 // before we participate.
-ghost use Rattle.laws.specs.Usual.{◌≡◌, [], ◌≤◌, length};
+#![tactic(auto)]
+ghost use Rattle.std.specs.Prelude.{◌≡◌, ◌≤◌};
+ghost use Rattle.laws.specs.Usual.{[], length};
 ghost use Rattle.boundary_core.specs.Crossing.{core_of, station_in};
 ghost use Rattle.boundary_lists.specs.Lists.{members_in};
 ghost use Rattle.boundary_places.specs.Places.{core_in, kept};

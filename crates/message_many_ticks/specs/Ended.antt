@@ -1,5 +1,6 @@
 -- The ticks that are left, all of them quiet, end where all the ticks from the first state on do. Assumes nothing.
-use Rattle.laws.specs.Usual.{◌≡◌, sym, ap, ap₂, subst, ◌∙◌, List, [], ℕ}
+use Rattle.std.specs.Prelude.{◌≡◌}
+use Rattle.laws.specs.Usual.{sym, ap, ap₂, subst, ◌∙◌, List, [], ℕ}
 use Rattle.boundary_answers.specs.Numbers.{ticked_answer}
 use Rattle.boundary_answers.specs.declared.Answer.{Answer}
 use Rattle.boundary_core.specs.Crossing.{core_of}
@@ -12,12 +13,12 @@ use Rattle.message_quiet.specs.ManyLaws.{after_ring, ticks_are}
 use Rattle.message_quiet.specs.Quietly.{Quietly, quietly_ticked}
 use Rattle.message_rules.specs.Rules.Calls.{Both, Ticking}
 use Rattle.message_rules.specs.Rules.State.{Sources, no_sources}
-use Rattle.station.specs.Rules.Ticking as ticking
 use Rattle.station.specs.Types.{Members}
 use Rattle.station.specs.declared.Station.{Station}
 use Rattle.station.specs.declared.Ticked.{Ticked}
+use Rattle.station.specs.Rules.Ticking as ticking
 use Rattle.ticking_quiet.specs.Many as base
-use Rattle.ticking_quiet.specs.ManyLaws as base-laws
+use Rattle.ticking_quiet.proofs.ManyLaws as base_laws
 
 abbrev with : Station → Outgoing → List Confirmation → Sources → Both
 with ring side owed sources = record { ring = ring; messages = messages_of side owed sources }

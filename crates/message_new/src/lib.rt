@@ -1,5 +1,7 @@
 // A new station with messages, on its arrays, all changed in place.
-ghost use Rattle.laws.specs.Usual.{◌≡◌, replicate};
+#![tactic(auto)]
+ghost use Rattle.std.specs.Prelude.{◌≡◌};
+ghost use Rattle.laws.specs.Usual.{replicate};
 ghost use Rattle.boundary_core.specs.Crossing.{core_of};
 ghost use Rattle.boundary_lists.specs.Lists.{members_in};
 ghost use Rattle.boundary_places.specs.Places.{core_in};

@@ -1,5 +1,6 @@
 -- The quiet ticks that the numbers tell, of so many at the most; and watch times in an array of octets. Assumes nothing.
-use Rattle.laws.specs.Usual.{◌≡◌, refl, sym, ap, subst, ◌∙◌, Bool, true, false, cond, ◌&&◌, List, ℕ, ◌<◌, arith, min, get_or, ltb}
+use Rattle.std.specs.Prelude.{◌≡◌, ◌&&◌, ◌<◌}
+use Rattle.laws.specs.Usual.{refl, sym, ap, subst, ◌∙◌, Bool, true, false, cond, List, ℕ, arith, min, get_or, ltb}
 use native.Mathlib.Decide.{dec_lt}
 use borrow.Author.Tests.{ltb-true, ltb-false}
 use lib.ListN.{get_or-eq_default}

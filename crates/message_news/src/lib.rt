@@ -1,5 +1,7 @@
 // How many of the next ticks bring no news, of so many at the most, by the core and two of the list's arrays.
-ghost use Rattle.laws.specs.Usual.{◌≡◌, List, ℕ, ◌<◌, length, get_or};
+#![tactic(auto)]
+ghost use Rattle.std.specs.Prelude.{◌≡◌, ◌<◌};
+ghost use Rattle.laws.specs.Usual.{List, ℕ, length, get_or};
 ghost use Rattle.boundary_core.specs.Crossing.{station_in};
 ghost use Rattle.message_quiet.specs.Quietly.{Quietly, quiet_among};
 ghost use Rattle.ticking_quiet.specs.Quiet.{quiet_of};

@@ -1,5 +1,6 @@
 // The octets of a number that a message or a confirmation carries.
-ghost use Rattle.laws.specs.Usual.{◌≡◌};
+#![tactic(auto)]
+ghost use Rattle.std.specs.Prelude.{◌≡◌};
 ghost use Rattle.frame_writing.specs.Writing.{long};
 
 // A number in four octets, the most significant first (clause 8.3).

@@ -1,5 +1,6 @@
 -- The numbers of what is owed, worked out for single confirmations. Assumes nothing.
-use Rattle.laws.specs.Usual.{◌≡◌, refl, true, false, List, [], ◌∷◌, ℕ, drop, replicate}
+use Rattle.std.specs.Prelude.{◌≡◌, ◌∷◌}
+use Rattle.laws.specs.Usual.{refl, true, false, List, [], ℕ, drop, replicate}
 use Rattle.message.specs.declared.Confirmation.{Confirmation}
 use Rattle.message_places.specs.Owed.{owed_in, kept_owed}
 use Rattle.message_owed.specs.Owing.{owing_where_free, is_owing}

@@ -1,6 +1,6 @@
 -- The confirmations owed as numbers: what is put into them is what they hold then, and what they hold already changes none of them. Assumes nothing.
-use Rattle.laws.specs.Usual.{◌≡◌, refl, sym, ap, ap₂, ◌∙◌, Bool, true, false, cond, not, List, [], ◌∷◌, ◌++◌, ℕ, suc, ◌+◌, ◌*◌, ◌/◌, ◌<◌, ◌≤◌, arith, length, get_or, take, drop, eqb, ltb}
-use Rattle.std.specs.Prelude.{zero}
+use Rattle.laws.specs.Usual.{refl, sym, ap, ap₂, ◌∙◌, Bool, true, false, cond, not, List, [], ℕ, suc, arith, length, get_or, take, drop, eqb, ltb}
+use Rattle.std.specs.Prelude.{◌≡◌, ◌∷◌, ◌++◌, ◌+◌, ◌*◌, ◌/◌, ◌<◌, ◌≤◌, zero}
 use borrow.Author.Tests.{eq-eqb, eqb-true, le-ltb, lt-ltb, ltb-false}
 use Rattle.std.proofs.Common.{length-append, take-append-drop}
 use Rattle.low_parts.specs.Parts.{octet}

@@ -1,5 +1,6 @@
 -- What is owed after one more, whether anything is, and a confirmation by its place in the numbers.
-use Rattle.laws.specs.Usual.{Bool, true, false, cond, List, [], ◌∷◌, ℕ, ◌+◌, get_or}
+use Rattle.std.specs.Prelude.{◌∷◌, ◌+◌}
+use Rattle.laws.specs.Usual.{Bool, true, false, cond, List, [], ℕ, get_or}
 use Rattle.message.specs.declared.Confirmation.{Confirmation}
 use Rattle.message_places.specs.Owed.{confirmation_by}
 use Rattle.message_rules.specs.Rules.Confirming.{owing, is_full}

@@ -1,5 +1,6 @@
 -- The numbers searched, and changed one at a time. Assumes nothing.
-use Rattle.laws.specs.Usual.{◌≡◌, refl, sym, ap, ap₂, ◌∙◌, Bool, true, false, cond, not, List, [], ◌∷◌, ◌++◌, ℕ, suc, ◌+◌, ◌-◌, ◌*◌, ◌<◌, ◌≤◌, arith, length, get_or, take, drop, set, eqb}
+use Rattle.std.specs.Prelude.{◌≡◌, ◌∷◌, ◌++◌, ◌+◌, ◌-◌, ◌*◌, ◌<◌, ◌≤◌}
+use Rattle.laws.specs.Usual.{refl, sym, ap, ap₂, ◌∙◌, Bool, true, false, cond, not, List, [], ℕ, suc, arith, length, get_or, take, drop, set, eqb}
 use Prim.Native.Nat.{zero}
 use Rattle.std.proofs.Common.{eq-eqb, ne_eqb, eqb-true, length-append, length-drop, get_or-append-add, get_or-drop, drop-drop, add-one}
 use Rattle.std.proofs.lemmas.List.Edits.{sets-eq}

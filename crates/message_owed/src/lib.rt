@@ -1,5 +1,7 @@
 // The confirmations owed, in the numbers that C keeps: how many, then three numbers for each, the oldest first.
-ghost use Rattle.laws.specs.Usual.{◌≡◌, false, List, [], ◌∷◌, ◌++◌, ◌+◌, ◌<◌, ◌≤◌, length, take, drop};
+#![tactic(auto)]
+ghost use Rattle.std.specs.Prelude.{◌≡◌, ◌∷◌, ◌++◌, ◌+◌, ◌<◌, ◌≤◌};
+ghost use Rattle.laws.specs.Usual.{false, List, [], length, take, drop};
 ghost use Rattle.message_owed.specs.Owing.{owing_where_free, is_owing, confirmation_at};
 ghost use Rattle.message_places.specs.Owed.{head_of, count_in, owed_in, kept_owed};
 ghost use Rattle.message_rules.specs.Rules.Confirming.{is_owed, is_full};

@@ -1,6 +1,6 @@
 -- What is put into the numbers is what they hold then, and an outgoing side that they hold already changes none of them. Assumes nothing.
-use Rattle.laws.specs.Usual.{◌≡◌, refl, sym, ap, ap₂, ◌∙◌, Bool, true, false, cond, List, ◌∷◌, ℕ, suc, ◌<◌, ◌≤◌, arith, length, get_or, eqb, leb}
-use Rattle.std.specs.Prelude.{zero}
+use Rattle.laws.specs.Usual.{refl, sym, ap, ap₂, ◌∙◌, Bool, true, false, cond, List, ℕ, suc, arith, length, get_or, eqb, leb}
+use Rattle.std.specs.Prelude.{◌≡◌, ◌∷◌, ◌<◌, ◌≤◌, zero}
 use Rattle.std.proofs.Common.{eq-eqb, le-leb, eqb-true, leb-true}
 use Rattle.low_parts.specs.Parts.{octet, octets, with_octet}
 use Rattle.low_parts.specs.Laws.{octet_back, octets_back, flag_back, octet_same, octets_same, flag_same, elements, all_elements}

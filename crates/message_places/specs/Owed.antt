@@ -1,7 +1,7 @@
 -- The confirmations owed as C keeps them: how many, then three numbers for each, the oldest first. Above eight counts as eight. What stands behind them is
 -- left as it is.
-use Rattle.laws.specs.Usual.{cond, List, [], ◌∷◌, ◌++◌, ℕ, suc, ◌+◌, ◌*◌, ◌/◌, min, length, drop, get_or, eqb}
-use Rattle.std.specs.Prelude.{zero}
+use Rattle.laws.specs.Usual.{cond, List, [], ℕ, suc, min, length, drop, get_or, eqb}
+use Rattle.std.specs.Prelude.{◌∷◌, ◌++◌, ◌+◌, ◌*◌, ◌/◌, zero}
 use Rattle.low_parts.specs.Parts.{octet}
 use Rattle.message.specs.declared.Confirmation.{Confirmation}
 use Rattle.message_rules.specs.Rules.Confirming.{owed_most}

@@ -1,6 +1,7 @@
 -- The outgoing side as C keeps it: eighteen numbers of 32 bits in the order of the header's `flnet_outgoing`, changed in place. Of a number that stands for
 -- an octet, two octets or a flag only its low part counts, and what stands above that part is left as it is.
-use Rattle.laws.specs.Usual.{cond, List, [], ◌∷◌, ℕ, get_or, eqb, leb}
+use Rattle.std.specs.Prelude.{◌∷◌}
+use Rattle.laws.specs.Usual.{cond, List, [], ℕ, get_or, eqb, leb}
 use Rattle.low_parts.specs.Parts.{octet, octets, flag, with_octet, with_octets, with_flag}
 use Rattle.message.specs.Words.{mail_number}
 use Rattle.message.specs.declared.Mail.{Mail}

@@ -1,4 +1,5 @@
 // The message part in the numbers that C keeps: what they hold, and what is put into them.
+#![tactic(auto)]
 use message::{Cycle, Slot};
 
 // How many there are: of the outgoing side, and of the confirmations owed.
@@ -10,7 +11,7 @@ pub const OWED_NUMBERS: usize = 25;
 pub const MAIL_OCTETS: usize = 1024;
 
 // The sequence numbers last given, 0 for none.
-#[derive(Drop)]
+#[derive(Clone, Copy)]
 pub struct Given {
     // one to one
     pub one: u32,
@@ -19,7 +20,7 @@ pub struct Given {
 }
 
 // Whether a message went.
-#[derive(Drop)]
+#[derive(Clone, Copy)]
 pub struct Went {
     // in this turn
     pub now: bool,
@@ -29,7 +30,7 @@ pub struct Went {
 
 // The outgoing side of the message part: all but what is owed and what is known of the sources. It goes by value between the crates alone; C keeps it in
 // numbers.
-#[derive(Drop)]
+#[derive(Clone, Copy)]
 pub struct Outgoing {
     pub allowed: Cycle,
     // of our sequence numbers

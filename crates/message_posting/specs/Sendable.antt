@@ -1,16 +1,15 @@
 -- Handing in a message, by the flags of the list: each of its outcomes, of a station whose list is in arrays. Assumes nothing.
-use Rattle.laws.specs.Usual.{◌≡◌, refl, sym, ap, ◌∙◌, Bool, true, false, ◌&&◌, ◌||◌, List, ℕ, ◌<◌, length, get_or, leb}
+use Rattle.std.specs.Prelude.{◌≡◌, ◌&&◌, ◌||◌, ◌<◌}
+use Rattle.laws.specs.Usual.{refl, sym, ap, ◌∙◌, Bool, true, false, List, ℕ, length, get_or, leb}
 use Rattle.boundary_answers.specs.declared.Answer.{Answer}
 use Rattle.boundary_core.specs.Crossing.{station_in}
 use Rattle.boundary_core.specs.declared.Core.{Core}
 use Rattle.boundary_lists.specs.Laws.{listed_in}
 use Rattle.copying.specs.Pasted.{pasted}
-use Rattle.frame.specs.declared.Refusal.TheVariants as refusals
 use Rattle.message.specs.Codes.{is_message, to_all}
 use Rattle.message.specs.declared.Confirmation.{Confirmation}
 use Rattle.message.specs.declared.Message.{Message}
 use Rattle.message.specs.declared.Posted.{Posted}
-use Rattle.message.specs.declared.Posted.TheVariants as posted
 use Rattle.message_answers.specs.Numbers.{posted_answer}
 use Rattle.message_frames.specs.Frames.{data_most}
 use Rattle.message_places.specs.Laws.{outgoing_same}
@@ -22,6 +21,8 @@ use Rattle.message_rules.specs.Rules.Posting.{Posting, mail_right, is_sendable, 
 use Rattle.message_rules.specs.Rules.State.{Messages, Sources, with_slot}
 use Rattle.station.specs.Rules.State.{is_off}
 use Rattle.station.specs.declared.Station.{Station}
+use Rattle.frame.specs.declared.Refusal.TheVariants as refusals
+use Rattle.message.specs.declared.Posted.TheVariants as posted
 
 abbrev pub sendable_by : List Bool → Message → ℕ → Bool
 sendable_by listed message octets =

@@ -1,5 +1,7 @@
 // Handing in a message, on the core in numbers, the flags of the list and the outgoing side in numbers. A refused one touches nothing.
-ghost use Rattle.laws.specs.Usual.{◌≡◌, List, ℕ};
+#![tactic(auto)]
+ghost use Rattle.std.specs.Prelude.{◌≡◌};
+ghost use Rattle.laws.specs.Usual.{List, ℕ};
 ghost use Rattle.boundary_places.specs.Places.{core_in};
 ghost use Rattle.message.specs.declared.Confirmation.{Confirmation};
 ghost use Rattle.message_answers.specs.Numbers.{posted_answer};

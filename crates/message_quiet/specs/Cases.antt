@@ -1,5 +1,6 @@
 -- Worked cases. Assumes nothing.
-use Rattle.laws.specs.Usual.{◌≡◌, refl, Bool, true, false, ℕ}
+use Rattle.std.specs.Prelude.{◌≡◌}
+use Rattle.laws.specs.Usual.{refl, Bool, true, false, ℕ}
 use Rattle.message.specs.declared.Mail.{Mail}
 use Rattle.message.specs.declared.Mail.TheVariants.{Waiting, Unconfirmed, Failed}
 use Rattle.message.specs.declared.Slot.{Slot}

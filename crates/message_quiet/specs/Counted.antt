@@ -1,5 +1,6 @@
 -- Ticks of a slot in one step.
-use Rattle.laws.specs.Usual.{Bool, cond, ◌&&◌, ℕ, suc, ◌+◌, min, leb}
+use Rattle.std.specs.Prelude.{◌&&◌, ◌+◌}
+use Rattle.laws.specs.Usual.{Bool, cond, ℕ, suc, min, leb}
 use Prim.Native.Nat.{zero}
 use Rattle.message.specs.declared.Mail.TheVariants.{Unconfirmed}
 use Rattle.message.specs.declared.Slot.{Slot}

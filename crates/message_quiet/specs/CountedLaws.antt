@@ -1,5 +1,6 @@
 -- So many ticks of a message part are one step. Assumes nothing.
-use Rattle.laws.specs.Usual.{◌≡◌, refl, sym, ap, ◌∙◌, Bool, true, false, cond, ◌&&◌, ◌||◌, false≢true, ℕ, suc, ◌+◌, ◌<◌, min, arith, leb}
+use Rattle.std.specs.Prelude.{◌≡◌, ◌&&◌, ◌||◌, ◌+◌, ◌<◌}
+use Rattle.laws.specs.Usual.{refl, sym, ap, ◌∙◌, Bool, true, false, cond, false≢true, ℕ, suc, min, arith, leb}
 use Prim.Native.Nat.{zero}
 use borrow.Author.Tests.{leb-true}
 use Rattle.laws.specs.Tests.{first, second}

@@ -1,5 +1,6 @@
 -- Laws of ticks of a station with messages, one after the other. Assumes nothing.
-use Rattle.laws.specs.Usual.{◌≡◌, refl, sym, ap, ap₂, ◌∙◌, ℕ, suc, ◌+◌, arith, replicate}
+use Rattle.std.specs.Prelude.{◌≡◌, ◌+◌}
+use Rattle.laws.specs.Usual.{refl, sym, ap, ap₂, ◌∙◌, ℕ, suc, arith, replicate}
 use Prim.Native.Nat.{zero}
 use Rattle.message_rules.specs.Rules.Again.{ticked}
 use Rattle.message_rules.specs.Rules.Calls.{Both, Ticking, tick, after, tick_of}
@@ -8,9 +9,9 @@ use Rattle.settling.specs.Steps.{after_all}
 use Rattle.station.specs.Rules.Ticking.{tick_answer}
 use Rattle.station.specs.declared.Station.{Station}
 use Rattle.station.specs.declared.Ticked.{Ticked}
-use Rattle.ticking_quiet.specs.Many as base
-use Rattle.ticking_quiet.specs.ManyLaws as base-laws
 use Rattle.message_quiet.specs.Many.{after_ticks, ticks_of, ticked_for}
+use Rattle.ticking_quiet.specs.Many as base
+use Rattle.ticking_quiet.proofs.ManyLaws as base_laws
 
 -- the last tick comes after the others
 pub one_more : (count : ℕ) (both : Both) → (tick_of (after_ticks count both)).both ≡ after_ticks (suc count) both

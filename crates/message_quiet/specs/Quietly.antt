@@ -1,26 +1,28 @@
 -- A tick that brings no news is no taking, so that the message part is only ticked by those that are quiet. Assumes nothing.
-use Rattle.laws.specs.Usual.{◌≡◌, refl, sym, ap, ap₂, ◌∙◌, Bool, true, false, not, ◌&&◌, ◌||◌, ℕ, suc, ◌<◌, ◌≤◌, min, arith, eqb}
+use Rattle.std.specs.Prelude.{◌≡◌, ◌&&◌, ◌||◌, ◌<◌, ◌≤◌}
+use Rattle.laws.specs.Usual.{refl, sym, ap, ap₂, ◌∙◌, Bool, true, false, not, ℕ, suc, min, arith, eqb}
 use Prim.Native.Nat.{zero}
 use borrow.Author.Tests.{eqb-true, not-false}
 use Rattle.laws.specs.Tests.{neither_first, neither_second}
 use Rattle.message_rules.specs.Rules.Again.{ticked, turned}
 use Rattle.message_rules.specs.Rules.Calls.{Both, takes, tick_of}
 use Rattle.message_rules.specs.Rules.State.{Messages}
-use Rattle.station.specs.Outcomes.TickCases.{TickCases, off, listens, starts, lapses, begins, gives_up, learns, waits, ends, runs, tick_cases}
+use Rattle.station.proofs.Outcomes.TickCases.{tick_cases}
+use Rattle.station.specs.Outcomes.TickCases.{TickCases, off, listens, starts, lapses, begins, gives_up, learns, waits, ends, runs}
 use Rattle.station.specs.Rules.Answers.{phase_number}
-use Rattle.station.specs.Rules.Calls as calls
 use Rattle.station.specs.Rules.State.{is_participating, holds}
-use Rattle.station.specs.Rules.Ticking as ticking
 use Rattle.station.specs.Rules.Ticking.{later}
 use Rattle.station.specs.Rules.Waits.{acceptance_time, number_wait}
 use Rattle.station.specs.declared.Phase.{Phase}
 use Rattle.station.specs.declared.Phase.TheVariants.{Off, Listening, Startup, Joining, Participating}
 use Rattle.station.specs.declared.Station.{Station}
-use Rattle.ticking_quiet.specs.Many as base
 use Rattle.ticking_quiet.specs.Quiet.{is_due, tick_is_news, Quiet, never, till, Timed, Exactly, quiet_of}
-use Rattle.ticking_quiet.specs.QuietExact.{quiet_exact}
-use Rattle.ticking_quiet.specs.Step.{settings_kept}
+use Rattle.ticking_quiet.proofs.QuietExact.{quiet_exact}
+use Rattle.ticking_quiet.proofs.Step.{settings_kept}
 use Rattle.message_quiet.specs.Many.{after_ticks, ticked_for}
+use Rattle.station.specs.Rules.Calls as calls
+use Rattle.station.specs.Rules.Ticking as ticking
+use Rattle.ticking_quiet.specs.Many as base
 
 -- the next ticks, so many of them, bring no news
 abbrev pub Quietly : ℕ → Station → Type 0

@@ -1,7 +1,9 @@
 // Reading a message frame: the fields that are looked at, and whether its data stand where they may.
+#![tactic(auto)]
 mod position;
 
-ghost use Rattle.laws.specs.Usual.{◌≡◌, ◌≤◌, length};
+ghost use Rattle.std.specs.Prelude.{◌≡◌, ◌≤◌};
+ghost use Rattle.laws.specs.Usual.{length};
 ghost use Rattle.message_frames.specs.Frames.{letter_in, measured};
 
 use frame_reading::{BSIZE, DNA, SNA, TCD, long_at, word_at};

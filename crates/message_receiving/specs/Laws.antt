@@ -1,5 +1,6 @@
 -- What is owed and known after a message is what the rules say, whatever the outgoing side. Assumes nothing.
-use Rattle.laws.specs.Usual.{◌≡◌, refl, sym, ap, ◌∙◌, Bool, true, false, cond, not, ◌&&◌, List, ℕ}
+use Rattle.std.specs.Prelude.{◌≡◌, ◌&&◌}
+use Rattle.laws.specs.Usual.{refl, sym, ap, ◌∙◌, Bool, true, false, cond, not, List, ℕ}
 use Rattle.boundary_told.specs.Told.{route_read}
 use Rattle.boundary_answers.specs.Numbers.{no_frame}
 use Rattle.frame_reading.specs.Reading.{read_of}
@@ -8,7 +9,6 @@ use Rattle.message.specs.declared.Confirmation.{Confirmation}
 use Rattle.message.specs.declared.Judged.{Judged}
 use Rattle.message.specs.declared.Letter.{Letter}
 use Rattle.message.specs.declared.Received.{Received}
-use Rattle.message.specs.declared.Received.TheVariants as received
 use Rattle.message_answers.specs.Numbers.{received_told}
 use Rattle.message_answers.specs.declared.Reception.{Reception}
 use Rattle.message_owed.specs.Owing.{owing_where_free}
@@ -19,9 +19,10 @@ use Rattle.message_rules.specs.Rules.Confirming.{owing, is_full}
 use Rattle.message_rules.specs.Rules.Hearing.{confirmation_of, answer_to, taken}
 use Rattle.message_rules.specs.Rules.State.{Sources}
 use Rattle.message_sources.specs.Sources.{sources_after}
-use Rattle.station.specs.declared.Heard.TheVariants as heard
 use Rattle.station.specs.declared.Station.{Station}
 use Rattle.message_receiving.specs.Receiving.{is_held_by, owed_after, Taking, judged_by, taken_by, heard_as, received_answer}
+use Rattle.message.specs.declared.Received.TheVariants as received
+use Rattle.station.specs.declared.Heard.TheVariants as heard
 
 module _ (owed : List Confirmation) (sources : Sources) (letter : Letter) where
   -- by how the code judged it

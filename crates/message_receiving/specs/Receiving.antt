@@ -1,12 +1,12 @@
 -- A message that is for us and that no refusal met, by what is owed and known alone: the outgoing side does not matter to it.
-use Rattle.laws.specs.Usual.{Bool, cond, not, ◌&&◌, List}
+use Rattle.std.specs.Prelude.{◌&&◌}
+use Rattle.laws.specs.Usual.{Bool, cond, not, List}
 use Rattle.boundary_answers.specs.Numbers.{heard_answer}
 use Rattle.message.specs.Codes.{to_all}
 use Rattle.message.specs.declared.Confirmation.{Confirmation}
 use Rattle.message.specs.declared.Judged.{Judged}
 use Rattle.message.specs.declared.Letter.{Letter}
 use Rattle.message.specs.declared.Received.{Received}
-use Rattle.message.specs.declared.Received.TheVariants as received
 use Rattle.message_answers.specs.Numbers.{delivery_answer}
 use Rattle.message_answers.specs.declared.Reception.{Reception}
 use Rattle.message_owed.specs.Owing.{owing_where_free}
@@ -16,8 +16,9 @@ use Rattle.message_rules.specs.Rules.Confirming.{is_full}
 use Rattle.message_rules.specs.Rules.Hearing.{Hearing, judge, confirmation_of, answer_to}
 use Rattle.message_rules.specs.Rules.State.{no_message, Sources, known_of}
 use Rattle.message_sources.specs.Sources.{sources_after}
-use Rattle.station.specs.declared.Heard.TheVariants as heard
 use Rattle.station.specs.declared.Station.{Station}
+use Rattle.message.specs.declared.Received.TheVariants as received
+use Rattle.station.specs.declared.Heard.TheVariants as heard
 
 abbrev pub is_held_by : List Confirmation → Judged → Letter → Bool
 is_held_by owed judged letter = not (to_all letter.message.destination) && is_full (confirmation_of judged letter) owed

@@ -1,5 +1,6 @@
 // A message that is for us and that no refusal met: what is owed and known after it, in the numbers that C keeps, and what is answered.
-ghost use Rattle.laws.specs.Usual.{◌≡◌};
+#![tactic(auto)]
+ghost use Rattle.std.specs.Prelude.{◌≡◌};
 ghost use Rattle.message_places.specs.Owed.{owed_in, kept_owed};
 ghost use Rattle.message_receiving.specs.Receiving.{is_held_by, owed_after, taken_by, received_answer};
 ghost use Rattle.message_rules.specs.Rules.Hearing.{answer_to};

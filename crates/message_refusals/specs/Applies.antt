@@ -1,6 +1,7 @@
 -- Paper 01, "Numbers the station answers with", with E2 of paper 02: for each number, the calls and states of a station with messages to which it applies,
 -- whatever the other numbers say of the same call. What is not written out here is as it was: `applies` of crates/refusals/specs/Applies.antt.
-use Rattle.laws.specs.Usual.{Bool, false, not, ◌&&◌, ◌||◌, List, ℕ, ◌-◌, length, ltb}
+use Rattle.std.specs.Prelude.{◌&&◌, ◌||◌, ◌-◌}
+use Rattle.laws.specs.Usual.{Bool, false, not, List, ℕ, length, ltb}
 use Rattle.frame.specs.Octets.{word_at}
 use Rattle.frame.specs.Positions.{TCD}
 use Rattle.frame.specs.declared.Refusal.{Refusal}
@@ -9,17 +10,17 @@ use Rattle.frame_refusals.specs.Refusals.{order}
 use Rattle.members.specs.Members.{is_listed}
 use Rattle.message.specs.Codes.{is_message, to_all}
 use Rattle.message.specs.declared.Letter.{Letter}
-use Rattle.message.specs.declared.Message as messages
 use Rattle.message_frames.specs.Frames.{letter_in}
 use Rattle.message_rules.specs.Rules.Again.{is_open}
 use Rattle.message_rules.specs.Rules.Calls.{Both, Call, start, stop, tick, post, hear, ask}
 use Rattle.message_rules.specs.Rules.Posting.{mail_right}
 use Rattle.refusals.specs.Applies.{first_of}
-use Rattle.refusals.specs.Applies as base
-use Rattle.station.specs.Rules.Calls as calls
 use Rattle.station.specs.Rules.Calls.{Verdict}
 use Rattle.station.specs.Rules.State.{is_participating}
 use Rattle.station.specs.declared.Station.{Station}
+use Rattle.message.specs.declared.Message as messages
+use Rattle.refusals.specs.Applies as base
+use Rattle.station.specs.Rules.Calls as calls
 
 -- octets with a message code
 abbrev pub coded_as_message : List ℕ → Bool

@@ -1,4 +1,3 @@
 -- The refusals of a station with messages.
-pub mod Left
 pub mod Applies
 pub mod FirstApplies

@@ -1,6 +1,7 @@
 -- Demand 3 with messages: its premises, the disturbed ring as the paper takes it, and its conclusion, which is that of any ring of which passes and silences
 -- are counted (`CountingSettles` of settling).
-use Rattle.laws.specs.Usual.{◌≡◌, true, List, ℕ, take}
+use Rattle.std.specs.Prelude.{◌≡◌}
+use Rattle.laws.specs.Usual.{true, List, ℕ, take}
 use Rattle.frame.specs.Codes.{is_token}
 use Rattle.frame_reading.specs.Reading.{read_of}
 use Rattle.members.specs.Members.{entry_of, ring_of}

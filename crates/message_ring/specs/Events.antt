@@ -1,6 +1,7 @@
 -- Paper 01, "The ring in demand 3", for stations with messages (paper 02, E2): an event's asking may write a message, which all others hear; a stray may be a
 -- handing in, or a message heard by one station alone. Words in quotes are the papers'.
-use Rattle.laws.specs.Usual.{◌≡◌, Bool, true, false, cond, List, [], ℕ, take, eqb}
+use Rattle.std.specs.Prelude.{◌≡◌}
+use Rattle.laws.specs.Usual.{[], Bool, true, false, cond, List, ℕ, take, eqb}
 use Rattle.frame.specs.Codes.{is_cyclic}
 use Rattle.frame.specs.declared.Code.TheVariants.{Request}
 use Rattle.frame_reading.specs.Reading.{read_of}
@@ -14,15 +15,15 @@ use Rattle.ring.specs.Counts.{given_by}
 use Rattle.ring.specs.Events.{Stations, Lent, ends_watch}
 use Rattle.settling.specs.Counting.{Counting}
 use Rattle.settling.specs.Ring.{◌∈◌}
-use Rattle.station.specs.Rules.Asking as asking
 use Rattle.station.specs.Rules.Calls.{refused_by}
-use Rattle.station.specs.Rules.Hearing as hearing
 use Rattle.station.specs.Rules.State.{holds}
 use Rattle.station.specs.Rules.Waits.{counts_as}
 use Rattle.station.specs.Types.{Fields, Refusal, Frame}
 use Rattle.station.specs.declared.Asked.{Asked}
-use Rattle.station.specs.declared.Asked.TheVariants as answers
 use Rattle.station.specs.declared.Settings.{Settings}
+use Rattle.station.specs.Rules.Asking as asking
+use Rattle.station.specs.Rules.Hearing as hearing
+use Rattle.station.specs.declared.Asked.TheVariants as answers
 
 -- the stations of a ring, by their numbers, and their ring parts
 abbrev pub Boths : Type 0

@@ -1,6 +1,8 @@
 // What becomes of the outgoing side of messages by a tick, by a taking, by a confirmation and by a message that is handed in. None of it depends on what is
 // owed and what is known of the sources.
-ghost use Rattle.laws.specs.Usual.{◌≡◌, true, List};
+#![tactic(auto)]
+ghost use Rattle.std.specs.Prelude.{◌≡◌};
+ghost use Rattle.laws.specs.Usual.{true, List};
 ghost use Rattle.message.specs.declared.Confirmation.{Confirmation};
 ghost use Rattle.message_places.specs.Outgoing.{messages_of};
 ghost use Rattle.message_rules.specs.Rules.Again.{ticked as ticked_of, turned as turned_of};

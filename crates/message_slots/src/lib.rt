@@ -1,5 +1,7 @@
 // What becomes of the slot of a message by a tick, by a taking, by a status that comes for it, and by a new message.
-ghost use Rattle.laws.specs.Usual.{◌≡◌, ◌+◌, min};
+#![tactic(auto)]
+ghost use Rattle.std.specs.Prelude.{◌≡◌, ◌+◌};
+ghost use Rattle.laws.specs.Usual.{min};
 ghost use Rattle.message.specs.declared.Mail.TheVariants.{Unconfirmed};
 ghost use Rattle.message_rules.specs.Rules.Again.{or_failed, slot_with, where_unconfirmed, slot_ticked, slot_taken, slot_answered, confirmation_wait, takings_wait};
 ghost use Rattle.message_rules.specs.Rules.Posting.{waiting as waiting_of};

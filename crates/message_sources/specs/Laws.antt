@@ -1,5 +1,6 @@
 -- What is known of the sources, where it stays as it is. Assumes nothing.
-use Rattle.laws.specs.Usual.{◌≡◌, sym, ℕ}
+use Rattle.std.specs.Prelude.{◌≡◌}
+use Rattle.laws.specs.Usual.{sym, ℕ}
 use Rattle.std.proofs.lemmas.List.{set-get_or}
 use Rattle.message_rules.specs.Rules.State.{Sources, known_of, with_known}
 

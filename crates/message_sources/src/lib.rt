@@ -1,5 +1,7 @@
 // What is known of the sources, in three arrays of numbers with a place for each octet.
-ghost use Rattle.laws.specs.Usual.{◌≡◌, replicate};
+#![tactic(auto)]
+ghost use Rattle.std.specs.Prelude.{◌≡◌};
+ghost use Rattle.laws.specs.Usual.{replicate};
 ghost use Rattle.message.specs.declared.Judged.TheVariants.{OtherVersion, New};
 ghost use Rattle.message_rules.specs.Rules.Hearing.{judge as judge_of};
 ghost use Rattle.message_rules.specs.Rules.State.{known_of};

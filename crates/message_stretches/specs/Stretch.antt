@@ -1,6 +1,7 @@
 -- Ticks up to the next one that brings news: only that one can be a taking, and whether we held the token before them all and hold it after them tells it.
 -- Assumes nothing.
-use Rattle.laws.specs.Usual.{◌≡◌, refl, sym, ap, ap₂, ◌∙◌, Bool, not, ◌&&◌, ℕ, suc, ◌+◌, arith}
+use Rattle.std.specs.Prelude.{◌≡◌, ◌&&◌, ◌+◌}
+use Rattle.laws.specs.Usual.{refl, sym, ap, ap₂, ◌∙◌, Bool, not, ℕ, suc, arith}
 use Prim.Native.Nat.{zero}
 use native.Mathlib.Numerals.{add-one}
 use Rattle.message_quiet.specs.Many.{after_ticks, ticked_for}
@@ -10,8 +11,8 @@ use Rattle.message_rules.specs.Rules.Again.{turned}
 use Rattle.message_rules.specs.Rules.Calls.{Both, tick_of}
 use Rattle.message_rules.specs.Rules.State.{Messages}
 use Rattle.message_taking.specs.Taking.{is_holder, taken_by_lem}
-use Rattle.station.specs.Rules.Ticking as ticking
 use Rattle.station.specs.declared.Station.{Station}
+use Rattle.station.specs.Rules.Ticking as ticking
 use Rattle.ticking_quiet.specs.Many as base
 
 -- quiet ticks leave the token where it is

@@ -1,5 +1,7 @@
 // Ticks of a station with messages up to the last one that brings news, on its core, its list in arrays and its outgoing side.
-ghost use Rattle.laws.specs.Usual.{◌≡◌, List};
+#![tactic(auto)]
+ghost use Rattle.std.specs.Prelude.{◌≡◌};
+ghost use Rattle.laws.specs.Usual.{List};
 ghost use Rattle.boundary_core.specs.Crossing.{station_in};
 ghost use Rattle.message.specs.declared.Confirmation.{Confirmation};
 ghost use Rattle.message_quiet.specs.Many.{after_ticks};
@@ -14,7 +16,7 @@ use message_taking::holds;
 use message_turns::turned_where;
 
 // A core and an outgoing side, and the ticks that are still to come.
-#[derive(Drop)]
+#[derive(Clone, Copy)]
 pub struct Left {
     pub core: Core,
     pub outgoing: Outgoing,

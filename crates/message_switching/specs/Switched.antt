@@ -1,5 +1,6 @@
 -- Start and stop of a station with messages: the message part after them, and that the answer's word tells whether they were done.
-use Rattle.laws.specs.Usual.{◌≡◌, refl, eqb}
+use Rattle.std.specs.Prelude.{◌≡◌}
+use Rattle.laws.specs.Usual.{refl, eqb}
 use Rattle.boundary_answers.specs.Numbers.{switched_answer}
 use Rattle.message.specs.declared.Allowance.{Allowance}
 use Rattle.message_rules.specs.Rules.Calls.{is_done, start_of, stop_of}

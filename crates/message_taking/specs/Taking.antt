@@ -1,6 +1,7 @@
 -- A taking, told by the ring part before and after a call: whether we held the token before it and hold it after it, and of an asking whether it wrote the
 -- last block of our turn. Assumes nothing.
-use Rattle.laws.specs.Usual.{◌≡◌, refl, sym, ap, ◌∙◌, Bool, true, false, false≢true, cond, not, ◌&&◌, ◌||◌, List, ℕ, ◌+◌, ◌<◌, arith, eqb}
+use Rattle.std.specs.Prelude.{◌≡◌, ◌&&◌, ◌||◌, ◌+◌, ◌<◌}
+use Rattle.laws.specs.Usual.{refl, sym, ap, ◌∙◌, Bool, true, false, false≢true, cond, not, List, ℕ, arith, eqb}
 use Rattle.std.proofs.Common.{ltb-true, ne_eqb}
 use Rattle.area.specs.Areas.{in_range}
 use Rattle.block.specs.Blocks.{blocks_of}
@@ -8,8 +9,9 @@ use Rattle.boundary_core.specs.Crossing.{station_of, core_of, station_kept}
 use Rattle.boundary_core.specs.declared.Core.{Core}
 use Rattle.laws.specs.Tests.{second}
 use Rattle.message_rules.specs.Rules.Calls.{takes}
-use Rattle.station.specs.Outcomes.AskCases.{AskCases, refuses, sends, triggers, requests, begins, passes, ask_cases}
-use Rattle.station.specs.Panel.Asked.{last_code}
+use Rattle.station.proofs.Outcomes.AskCases.{ask_cases}
+use Rattle.station.specs.Outcomes.AskCases.{AskCases, refuses, sends, triggers, requests, begins, passes}
+use Rattle.station.proofs.Panel.Asked.{last_code}
 use Rattle.station.specs.Panel.History.{taking_by, passed_by, writes_to_us}
 use Rattle.station.specs.Rules.Asking.{Asking, ask_of, is_last, is_placed, next_station, block_sent, due_fields}
 use Rattle.station.specs.Rules.Calls.{ask}

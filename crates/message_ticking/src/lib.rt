@@ -1,5 +1,7 @@
 // A tick of a station with messages, on the core, the list and the outgoing side in arrays, all changed in place.
-ghost use Rattle.laws.specs.Usual.{◌≡◌, List};
+#![tactic(auto)]
+ghost use Rattle.std.specs.Prelude.{◌≡◌};
+ghost use Rattle.laws.specs.Usual.{List};
 ghost use Rattle.boundary_answers.specs.Numbers.{ticked_answer};
 ghost use Rattle.boundary_core.specs.Crossing.{core_of, station_in};
 ghost use Rattle.boundary_lists.specs.Lists.{members_in};

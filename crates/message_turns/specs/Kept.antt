@@ -1,6 +1,7 @@
 -- What is put into the numbers of the outgoing side is what a rule makes of it, whatever is owed and known; and numbers left alone, where the rule changes
 -- nothing. Assumes nothing.
-use Rattle.laws.specs.Usual.{◌≡◌, refl, sym, ap, ◌∙◌, Bool, false, cond, List, ℕ, ◌+◌, min, length}
+use Rattle.std.specs.Prelude.{◌≡◌, ◌+◌}
+use Rattle.laws.specs.Usual.{refl, sym, ap, ◌∙◌, Bool, false, cond, List, ℕ, min, length}
 use Rattle.message.specs.declared.Confirmation.{Confirmation}
 use Rattle.message.specs.declared.Mail.TheVariants.{Unconfirmed}
 use Rattle.message.specs.declared.Slot.{Slot}

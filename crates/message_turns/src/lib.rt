@@ -1,5 +1,7 @@
 // The outgoing side in numbers, by a tick, by a taking and by a confirmation, in place. None of it depends on what is owed and known.
-ghost use Rattle.laws.specs.Usual.{◌≡◌, List};
+#![tactic(auto)]
+ghost use Rattle.std.specs.Prelude.{◌≡◌};
+ghost use Rattle.laws.specs.Usual.{List};
 ghost use Rattle.message.specs.declared.Confirmation.{Confirmation};
 ghost use Rattle.message_places.specs.Outgoing.{outgoing_of, messages_of};
 ghost use Rattle.message_places.specs.Places.{outgoing_in, kept_outgoing};

@@ -1,6 +1,6 @@
 -- Stations 1 and 2 of a worked pair with messages, each brought up from off by calls alone. Assumes nothing.
-use Rattle.laws.specs.Usual.{◌≡◌, refl, ap, subst, ◌∙◌, Bool, true, false, cond, not, ◌&&◌, false≢true, List, [], ◌∷◌, ℕ, suc, ◌+◌, ◌<◌, min, arith, replicate, set, ltb}
-use Rattle.std.specs.Prelude.{zero}
+use Rattle.laws.specs.Usual.{refl, ap, subst, ◌∙◌, Bool, true, false, cond, not, false≢true, List, [], ℕ, suc, min, arith, replicate, set, ltb}
+use Rattle.std.specs.Prelude.{◌≡◌, ◌&&◌, ◌∷◌, ◌+◌, ◌<◌, zero}
 use Rattle.std.proofs.Common.{ltb-true}
 use Rattle.std.proofs.lemmas.Bool.{not-true}
 use Rattle.frame_reading.specs.Reading.{fields_of}
@@ -21,12 +21,12 @@ use Rattle.panel.specs.Panel.{blank}
 use Rattle.panel.specs.declared.Panel.{Panel}
 use Rattle.ring_worked.specs.Bringing.{large, small, small_at}
 use Rattle.settling.specs.Steps.{after_all}
-use Rattle.station.specs.Rules.Calls as base
 use Rattle.station.specs.Rules.State.{no_ticks, nothing}
 use Rattle.station.specs.Types.{Milliseconds}
 use Rattle.station.specs.declared.Phase.TheVariants.{Joining, Participating}
 use Rattle.station.specs.declared.Settings.{Settings}
 use Rattle.station.specs.declared.Station.{Station}
+use Rattle.station.specs.Rules.Calls as base
 
 -- an output of 1108 octets, in which a token frame has room for a confirmation, and a mail buffer
 abbrev pub output : List ℕ

@@ -1,6 +1,7 @@
 -- The pair as a ring that meets the premises of demand 3, with a message that waits; and events that can come, in which messages go and are heard. Assumes
 -- nothing.
-use Rattle.laws.specs.Usual.{◌≡◌, refl, sym, subst, ◌∙◌, true, false, false≢true, List, [], ◌∷◌, ◌++◌, ℕ, arith}
+use Rattle.std.specs.Prelude.{◌≡◌, ◌∷◌, ◌++◌}
+use Rattle.laws.specs.Usual.{refl, sym, subst, ◌∙◌, true, false, false≢true, List, [], ℕ, arith}
 use Rattle.std.proofs.Common.{inr}
 use mathlib.Core.List.Memᴰ
 use Rattle.frame_reading.specs.Reading.{fields_of, read_of}
@@ -9,9 +10,8 @@ use Rattle.frame_writing.specs.Writing.{no_areas, header_of, front_of, back_of, 
 use Rattle.members.specs.Members.{entry_of, ring_of}
 use Rattle.message.specs.declared.Mail.TheVariants.{Waiting, Unconfirmed, Confirmed}
 use Rattle.message.specs.declared.Message.{Message}
-use Rattle.message_frames.specs.Frames as letters
 use Rattle.message_ring.specs.Demand.{LastCall, sent, heard, Disturbed, BothSettles}
-use Rattle.message_ring.specs.DemandThree.{demand_three_both, demand_three_both_whole}
+use Rattle.message_ring.proofs.DemandThree.{demand_three_both, demand_three_both_whole}
 use Rattle.message_ring.specs.Events.{Boths, Event, ticked, stray, after_event, both_counting, posts, letters as heard_alone, CanCome}
 use Rattle.message_rules.specs.Ring.Reached.{Reachable}
 use Rattle.message_rules.specs.Rules.Calls.{Both, post, hear, after, ask_of, mail_of}
@@ -23,11 +23,12 @@ use Rattle.ring.specs.Events.{ends_watch}
 use Rattle.ring_worked.specs.Bringing.{large, small_at}
 use Rattle.settling.specs.Counting.{AllName, passes, given}
 use Rattle.settling.specs.First.{FirstAgreement}
-use Rattle.settling.specs.Next.{ascending_cons}
+use Rattle.settling.proofs.Next.{ascending_cons}
 use Rattle.settling.specs.Ring.{◌∈◌, Stations as Ascending}
 use Rattle.settling.specs.Steps.{after_all, EachFinds}
 use Rattle.station.specs.Rules.Waits.{counts_as}
 use Rattle.station.specs.declared.Phase.TheVariants.{Participating}
+use Rattle.message_frames.specs.Frames as letters
 
 abbrev pub numbers : List ℕ
 numbers = 1 ∷ 2 ∷ []

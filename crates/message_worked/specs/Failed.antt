@@ -1,12 +1,12 @@
 -- A message of station 1 that nobody confirms: it goes four times, and fails in the call that would make a fourth resend due. Station 2 passes the token and
 -- no more. The watch time is the longest, so that 1000 ticks end no watch. Assumes nothing.
-use Rattle.laws.specs.Usual.{◌≡◌, refl, ap, subst, ◌∙◌, Bool, true, false, cond, List, [], ◌∷◌, ◌++◌, ℕ, ◌+◌, min, ◌<◌, arith, replicate, take, leb}
+use Rattle.std.specs.Prelude.{◌≡◌, ◌∷◌, ◌++◌, ◌+◌, ◌<◌}
+use Rattle.laws.specs.Usual.{refl, ap, subst, ◌∙◌, Bool, true, false, cond, List, [], ℕ, min, arith, replicate, take, leb}
 use Rattle.std.proofs.Common.{leb-false}
 use Rattle.frame_reading.specs.Reading.{fields_of}
 use Rattle.frame_writing.specs.Writing.{header_of, front_of, back_of, fixed_for}
 use Rattle.message.specs.declared.Mail.TheVariants.{Unconfirmed, Failed}
 use Rattle.message.specs.declared.Slot.{Slot}
-use Rattle.message_frames.specs.Frames as letters
 use Rattle.message_rules.specs.Ring.Reached.{Reachable}
 use Rattle.message_rules.specs.Rules.Again.{is_due, slot_answered, slot_ticked}
 use Rattle.message_rules.specs.Rules.Calls.{Both, Call, tick, post, ask, after, ask_of, mail_of}
@@ -14,8 +14,9 @@ use Rattle.message_worked.specs.Bringing.{output, no_mail, hears, token, long, p
 use Rattle.message_worked.specs.Pair.{message, content, mail, letter, slot_of, gone_with, one_went}
 use Rattle.message_worked.specs.Waits.{waiting_one, one_waits}
 use Rattle.ring_worked.specs.Bringing.{large}
-use Rattle.settling.specs.Append.{after_append}
+use Rattle.settling.proofs.Append.{after_append}
 use Rattle.settling.specs.Steps.{after_all}
+use Rattle.message_frames.specs.Frames as letters
 
 -- an asking, and hearing that station 2 passes us the token
 abbrev pub asked : Call

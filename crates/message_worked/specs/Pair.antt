@@ -1,28 +1,29 @@
 -- A pair of stations, 1 and 2, and a message from 1 to 2 that is confirmed. Each step leaves the states that are written out here. Assumes nothing.
-use Rattle.laws.specs.Usual.{◌≡◌, refl, Bool, true, false, cond, List, [], ◌∷◌, ◌++◌, ℕ, drop, eqb, replicate, take}
+use Rattle.std.specs.Prelude.{◌≡◌, ◌∷◌, ◌++◌}
+use Rattle.laws.specs.Usual.{refl, Bool, true, false, cond, List, [], ℕ, drop, eqb, replicate, take}
 use Rattle.frame_reading.specs.Reading.{fields_of}
 use Rattle.frame_writing.specs.Writing.{header_of, front_of, back_of, fixed_for}
 use Rattle.message.specs.declared.Confirmation.{Confirmation}
 use Rattle.message.specs.declared.Mail.{Mail}
 use Rattle.message.specs.declared.Mail.TheVariants.{Waiting, Unconfirmed, Confirmed}
 use Rattle.message.specs.declared.Message.{Message}
-use Rattle.message.specs.declared.Posted.TheVariants as posting
-use Rattle.message.specs.declared.Received.TheVariants as received
 use Rattle.message.specs.declared.Slot.{Slot}
 use Rattle.message_frames.specs.Confirmations.{carrying}
-use Rattle.message_frames.specs.Frames as letters
 use Rattle.message_ring.specs.Events.{Boths, rings_of, Event, asked, stray, after_event}
 use Rattle.message_rules.specs.Ring.Reached.{Reachable}
 use Rattle.message_rules.specs.Rules.Calls.{Both, Call, post, ask, hear_of, ask_of, mail_of}
 use Rattle.message_rules.specs.Rules.Posting.{waiting, post_of}
 use Rattle.message_rules.specs.Rules.State.{Messages, begun, with_slot, with_heard, with_known, no_sources}
 use Rattle.message_worked.specs.Bringing.{output, no_mail, hears, allowance, token, short, panel_of, participant, one, two, one_reached, two_reached, reached_by}
-use Rattle.ring.specs.Events as ring
 use Rattle.ring.specs.Events.{Lent}
 use Rattle.ring_worked.specs.Bringing.{large}
 use Rattle.station.specs.Types.{Milliseconds}
 use Rattle.station.specs.declared.Asked.TheVariants.{Octets}
 use Rattle.station.specs.declared.Data.TheVariants.{Written}
+use Rattle.message.specs.declared.Posted.TheVariants as posting
+use Rattle.message.specs.declared.Received.TheVariants as received
+use Rattle.message_frames.specs.Frames as letters
+use Rattle.ring.specs.Events as ring
 use Rattle.station.specs.declared.Heard.TheVariants as heard
 use Rattle.station.specs.declared.Token.TheVariants as tokens
 

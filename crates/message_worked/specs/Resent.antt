@@ -1,14 +1,12 @@
 -- A message whose confirmation is lost: it is sent again, with the same number, handed over once, and confirmed at last. The watch time is the longest, so that
 -- 1000 ticks end no watch. Each step leaves the states that are written out, here or in `Failed`. Assumes nothing.
-use Rattle.laws.specs.Usual.{◌≡◌, refl, subst, ◌∙◌, true, false, List, [], ◌∷◌, ℕ, suc, replicate, take}
-use Rattle.std.specs.Prelude.{zero}
+use Rattle.laws.specs.Usual.{refl, subst, ◌∙◌, true, false, List, [], ℕ, suc, replicate, take}
+use Rattle.std.specs.Prelude.{◌≡◌, ◌∷◌, zero}
 use Rattle.frame_reading.specs.Reading.{fields_of}
 use Rattle.frame_writing.specs.Writing.{header_of, front_of, back_of, fixed_for}
 use Rattle.message.specs.declared.Confirmation.{Confirmation}
 use Rattle.message.specs.declared.Mail.TheVariants.{Unconfirmed, Confirmed}
-use Rattle.message.specs.declared.Received.TheVariants as received
 use Rattle.message_frames.specs.Confirmations.{carrying}
-use Rattle.message_frames.specs.Frames as letters
 use Rattle.message_ring.specs.Events.{Boths, ticked, after_event}
 use Rattle.message_rules.specs.Ring.Reached.{Reachable}
 use Rattle.message_rules.specs.Rules.Calls.{Both, Call, tick, ask, after, hear_of, ask_of, mail_of}
@@ -18,6 +16,8 @@ use Rattle.message_worked.specs.Pair.{pair_of, asks, Leaves, hands_in, message, 
 use Rattle.message_worked.specs.Waits.{waiting_one, waiting_two, one_waits, two_waits}
 use Rattle.ring_worked.specs.Bringing.{large}
 use Rattle.settling.specs.Steps.{after_all}
+use Rattle.message.specs.declared.Received.TheVariants as received
+use Rattle.message_frames.specs.Frames as letters
 use Rattle.station.specs.declared.Heard.TheVariants as heard
 
 -- The pair as before, with the longest watch time: the message is handed in, goes, is handed over, and its confirmation is owed; station 1 passes the token.

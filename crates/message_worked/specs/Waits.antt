@@ -1,6 +1,6 @@
 -- Many ticks of a station of the pair that end no watch, by one law. Assumes nothing.
-use Rattle.laws.specs.Usual.{◌≡◌, refl, ap, ap₂, ◌∙◌, Bool, true, false, cond, ◌&&◌, [], ℕ, suc, ◌+◌, ◌<◌, ◌≤◌, arith, min, replicate, leb}
-use Rattle.std.specs.Prelude.{zero}
+use Rattle.laws.specs.Usual.{refl, ap, ap₂, ◌∙◌, Bool, true, false, cond, [], ℕ, suc, arith, min, replicate, leb}
+use Rattle.std.specs.Prelude.{◌≡◌, ◌&&◌, ◌+◌, ◌<◌, ◌≤◌, zero}
 use Rattle.std.proofs.lemmas.Bool.{lt-leb}
 use Rattle.std.proofs.Math.Bool.{and-false}
 use Rattle.message.specs.declared.Mail.TheVariants.{Unconfirmed, Failed}
@@ -10,14 +10,14 @@ use Rattle.message_rules.specs.Rules.Calls.{Both, tick, after}
 use Rattle.message_rules.specs.Rules.State.{Messages}
 use Rattle.message_worked.specs.Bringing.{long, settings, panel_of, participant}
 use Rattle.message_worked.specs.Pair.{slot_of, gone_with, knowing}
-use Rattle.panel.specs.Panel as panel
 use Rattle.settling.specs.Steps.{after_all}
 use Rattle.station.specs.Panel.History.{is_taking}
-use Rattle.station.specs.Rules.Calls as base
 use Rattle.station.specs.Rules.State.{counted, no_ticks}
 use Rattle.station.specs.Rules.Ticking.{watch_ended, watch_of}
 use Rattle.station.specs.Types.{Ticks}
 use Rattle.station.specs.declared.Station.{Station}
+use Rattle.panel.specs.Panel as panel
+use Rattle.station.specs.Rules.Calls as base
 
 -- A station whose watch has run for so many ticks, as many as since its last taking; what its message part is then.
 module _ (number other view takings gap : ℕ) (messages : ℕ → Messages) where

@@ -1,5 +1,6 @@
 -- The header of a message frame in three parts. Assumes nothing.
-use Rattle.laws.specs.Usual.{◌≡◌, refl, List, ◌++◌, ℕ, ◌/◌, ◌%◌, length}
+use Rattle.std.specs.Prelude.{◌≡◌, ◌++◌, ◌/◌, ◌%◌}
+use Rattle.laws.specs.Usual.{refl, List, ℕ, length}
 use Rattle.frame_writing.specs.Writing.{four, long, words}
 use Rattle.message.specs.declared.Letter.{Letter}
 use Rattle.message_frames.specs.Frames.{whole_length, control_of, header_of}

@@ -1,5 +1,6 @@
 -- A message frame written in steps: the parts of its header, then its data right behind. Assumes nothing.
-use Rattle.laws.specs.Usual.{◌≡◌, sym, ap, ap₂, ◌∙◌, List, ◌++◌, ℕ, ◌+◌, ◌≤◌, arith, length, take, drop}
+use Rattle.std.specs.Prelude.{◌≡◌, ◌++◌, ◌+◌, ◌≤◌}
+use Rattle.laws.specs.Usual.{sym, ap, ap₂, ◌∙◌, List, ℕ, arith, length, take, drop}
 use Rattle.std.proofs.Common.{zero-add, length-append, length-take-le}
 use Rattle.copying.specs.Laws.{paste_append, paste_both}
 use Rattle.copying.specs.Pasted.{pasted}

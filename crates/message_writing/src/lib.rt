@@ -1,5 +1,7 @@
 // Writing a message frame: a header of 64 octets, and the data behind it.
-ghost use Rattle.laws.specs.Usual.{◌≡◌, ◌+◌, ◌≤◌, length};
+#![tactic(auto)]
+ghost use Rattle.std.specs.Prelude.{◌≡◌, ◌+◌, ◌≤◌};
+ghost use Rattle.laws.specs.Usual.{length};
 ghost use Rattle.copying.specs.Pasted.{pasted};
 ghost use Rattle.message_frames.specs.Frames.{control_of, header_of, output_of};
 ghost use Rattle.message_writing.specs.Parts.{front_of, middle_of, back_of};

@@ -2,9 +2,8 @@
 pub mod MissHistory
 pub mod WatchHistory
 -- Theorems.
-pub mod Cases
-pub mod EntryMoves
-pub mod ListMoves
-pub mod MissesTold
-pub mod CoverThird
 pub mod WatchTold
+pub mod Cases
+pub mod CoverThird
+pub mod EntryMoves
+pub mod MissesTold

@@ -1,7 +1,8 @@
 -- Paper 01, "The token view and the watch": misses, and the third in a row, told from the calls since off, from the frames that were heard, and
 -- from the phase, the rounds, the view and the watch before each call (`WatchHistory` tells when the watch ends from the calls, too). Nothing
 -- here looks at the misses that an entry carries, nor at what strikes it.
-use Rattle.laws.specs.Usual.{◌≡◌, Bool, true, false, cond, ◌&&◌, ◌||◌, List, [], ◌∷◌, ℕ, suc, eqb, ltb}
+use Rattle.std.specs.Prelude.{◌≡◌, ◌&&◌, ◌||◌, ◌∷◌}
+use Rattle.laws.specs.Usual.{[], Bool, true, false, cond, List, ℕ, suc, eqb, ltb}
 use Rattle.frame.specs.Codes.{is_token, is_cyclic}
 use Rattle.frame.specs.declared.Code.TheVariants.{Token, Cyclic, Request, Trigger}
 use Rattle.members.specs.Members.{is_listed}

@@ -1,6 +1,7 @@
 -- Paper 01, "The token view and the watch", and paper 02, E1: our watch, told from the calls since off, the phase, the list and the view before
 -- each, and the frames that were heard. Nothing here looks at the count of ticks that the state carries.
-use Rattle.laws.specs.Usual.{Bool, false, cond, not, ◌||◌, List, [], ◌∷◌, ℕ, suc, ◌*◌, eqb, leb}
+use Rattle.std.specs.Prelude.{◌||◌, ◌∷◌, ◌*◌}
+use Rattle.laws.specs.Usual.{[], Bool, false, cond, not, List, ℕ, suc, eqb, leb}
 use Rattle.frame.specs.Codes.{is_cyclic}
 use Rattle.members.specs.Members.{entry_of, is_listed}
 use Rattle.station.specs.Rules.Calls.{Call, start, stop, tick, hear, ask, verdict}

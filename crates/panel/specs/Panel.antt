@@ -1,6 +1,7 @@
 -- Paper 01, "The panel": "Ticks from one taking of the token to our next, shown in tenths: 63 shows `6.3`, 5 shows `0.5`." "Taking" is the
 -- paper's own term for a step that gives us the token.
-use Rattle.laws.specs.Usual.{Bool, cond, List, [], ◌∷◌, ◌++◌, ℕ, ◌+◌, ◌-◌, ◌/◌, ◌%◌, min, length, replicate, ltb}
+use Rattle.std.specs.Prelude.{◌∷◌, ◌++◌, ◌+◌, ◌-◌, ◌/◌, ◌%◌}
+use Rattle.laws.specs.Usual.{Bool, cond, List, [], ℕ, min, length, replicate, ltb}
 use Rattle.text.specs.Decimal.{decimal_of}
 use Rattle.units.specs.declared.Ticks.{Ticks}
 use Rattle.panel.specs.declared.Figure.{Figure}

@@ -1,5 +1,6 @@
 -- Laws of the panel's text. Assumes nothing.
-use Rattle.laws.specs.Usual.{◌≡◌, refl, [], ◌∷◌, ◌-◌, length, take, replicate}
+use Rattle.std.specs.Prelude.{◌≡◌, ◌∷◌, ◌-◌}
+use Rattle.laws.specs.Usual.{refl, [], length, take, replicate}
 use Rattle.std.proofs.Math.Seq.{take-append_seam}
 use Rattle.text.specs.Decimal.{decimal_at}
 use Rattle.panel.specs.Panel.{text_of, shown}

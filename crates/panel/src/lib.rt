@@ -1,19 +1,21 @@
 // The front panel's figure: the ticks from one taking of the token to the next.
-ghost use Rattle.laws.specs.Usual.{◌≡◌};
+#![tactic(auto)]
+
+ghost use Rattle.std.specs.Prelude.{◌≡◌};
 ghost use Rattle.panel.specs.Panel.{blank, counted, ticked, after_taking, is_over, figure_of};
 
 use units::Ticks;
 
 // The takings since we began to participate (2 stands for more), the ticks since the last one, and the last finished gap.
 #[repr(C)]
-#[derive(Drop)]
+#[derive(Clone, Copy)]
 pub struct Panel {
     pub takings: u8,
     pub running: Ticks,
     pub gap: Ticks,
 }
 
-#[derive(Drop)]
+#[derive(Clone, Copy)]
 pub enum Figure {
     // "--"
     Nothing,
@@ -23,7 +25,7 @@ pub enum Figure {
 }
 
 // What is shown, in ASCII: the first `length` octets, and zeros behind them.
-#[derive(Drop)]
+#[derive(Clone, Copy)]
 pub struct Text {
     pub octets: [u8; 6],
     pub length: usize,

@@ -1,5 +1,6 @@
 -- How long the panel's text is, and the six octets that it is handed on in. Assumes nothing.
-use Rattle.laws.specs.Usual.{◌≡◌, refl, List, [], ◌∷◌, ◌++◌, ℕ, ◌-◌, ◌<◌, ◌≤◌, arith, length, get_or, replicate}
+use Rattle.std.specs.Prelude.{◌≡◌, ◌∷◌, ◌++◌, ◌-◌, ◌<◌, ◌≤◌}
+use Rattle.laws.specs.Usual.{refl, List, [], ℕ, arith, length, get_or, replicate}
 use Rattle.copying.specs.Pasted.{pasted}
 use Rattle.text.specs.Decimal.{decimal_of}
 use Rattle.text.specs.Digits.{at_most, one_more}

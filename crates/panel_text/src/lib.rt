@@ -1,5 +1,7 @@
 // The panel's figure as text.
-ghost use Rattle.laws.specs.Usual.{◌≡◌, ◌≤◌};
+#![tactic(auto)]
+
+ghost use Rattle.std.specs.Prelude.{◌≡◌, ◌≤◌};
 ghost use Rattle.panel.specs.Panel.{over_text, tenths_text, gap_text, in_six, shown};
 
 use panel::{Figure, Text};
@@ -46,7 +48,7 @@ pub fn text_of(figure: Figure) -> Text
 {
     match figure {
         Figure::Nothing => Text {
-            octets: [b'_', b'_', 0, 0, 0, 0],
+            octets: [b'-', b'-', 0, 0, 0, 0],
             length: 2,
         },
         Figure::Over => over_text(),

@@ -1,5 +1,7 @@
 // A station that participates: its beginning, the restart of its watch, and what its panel shows.
-ghost use Rattle.laws.specs.Usual.{◌≡◌, cond};
+#![tactic(auto)]
+ghost use Rattle.std.specs.Prelude.{◌≡◌};
+ghost use Rattle.laws.specs.Usual.{cond};
 ghost use Rattle.panel.specs.Panel.{figure_of};
 ghost use Rattle.panel.specs.declared.Figure.TheVariants.{Nothing};
 ghost use Rattle.station.specs.Rules.Showing.{figure_shown};

@@ -1,8 +1,8 @@
 -- What is promised: each printed statement written out, in the order of docs/PROMISES.md, and proved by the theorem that is named beside it.
 -- The definitions that the statements are made of are the rules themselves, which the contracts of the calls cite. Words in quotes are the
 -- request's and paper 01's.
-use Rattle.laws.specs.Usual.{◌≡◌, refl, sym, ap, subst, ◌∙◌, true, false, cond, not, ◌&&◌, ◌||◌, false≢true, List, [], ◌∷◌, ◌++◌, ℕ, suc, ◌+◌, ◌-◌, ◌*◌, ◌<◌, ◌≤◌, length, get_or, take, replicate, eqb, leb}
-use Rattle.std.specs.Prelude.{◌⊎◌}
+use Rattle.laws.specs.Usual.{refl, sym, ap, subst, ◌∙◌, true, false, cond, not, false≢true, List, [], ℕ, suc, length, get_or, take, replicate, eqb, leb}
+use Rattle.std.specs.Prelude.{◌≡◌, ◌&&◌, ◌||◌, ◌∷◌, ◌++◌, ◌+◌, ◌-◌, ◌*◌, ◌<◌, ◌≤◌, ◌⊎◌}
 use Rattle.std.proofs.Common.{inl, inr}
 use Rattle.area.specs.Areas.{in_area, in_range}
 use Rattle.area.specs.Overlap.{parts_overlap, areas_overlap}
@@ -10,105 +10,113 @@ use Rattle.area.specs.Within.{Inside, inside}
 use Rattle.area.specs.Words.{Holds, overlap_shared, shared_overlap}
 use Rattle.area.specs.declared.Area.{Area}
 use Rattle.block.specs.Blocks.{octets_of, blocks_of, start_of, length_of}
-use Rattle.block.specs.Cut as cut
 use Rattle.boundary_core.specs.Crossing.{figure_in}
 use Rattle.boundary_answers.specs.declared.Answer.{Answer}
 use Rattle.boundary_told.specs.Told.{route_read}
 use Rattle.boundary_places.specs.Places.{core_in}
 use Rattle.cases.specs.Marked.{every, rules, holds, marked, marked_hold}
-use Rattle.decode_line.specs.Gathering as decoded
 use Rattle.decode_line.specs.Heard.{line_heard}
 use Rattle.decode_line.specs.Line.{line_answer, pushed_all, buffer_all}
 use Rattle.delivered.specs.Boxes.{Box, station_at, Done}
 use Rattle.delivered.specs.Frames.{heard_frame, written_frame}
 use Rattle.delivered.specs.Refusals.{Kept, refused_kept}
 use Rattle.delivered.specs.Rings.{Boxes, stations_in, Runs, delivered_settles}
-use Rattle.text_feeding.specs.Lines as lines
 use Rattle.frame.specs.Codes.{code_number, is_token, is_cyclic}
 use Rattle.frame.specs.Octets.{octet_at}
 use Rattle.frame_refusals.specs.Refusals.{order}
 use Rattle.frame.specs.declared.Refusal.TheVariants.{Taken}
 use Rattle.members.specs.Members.{entry_of, is_listed, ring_of}
 use Rattle.misses.specs.MissHistory.{misses_said, ends, is_stop}
-use Rattle.misses.specs.MissesTold.{misses_told, struck_third}
+use Rattle.misses.proofs.MissesTold.{misses_told, struck_third}
 use Rattle.misses.specs.WatchHistory.{milliseconds, watch_run}
-use Rattle.misses.specs.WatchTold.{watch_told}
+use Rattle.misses.proofs.WatchTold.{watch_told}
 use Rattle.panel.specs.Panel.{text_of, shown}
 use Rattle.panel.specs.Texts.{shown_text}
 use Rattle.panel.specs.declared.Figure.TheVariants.{Nothing}
 use Rattle.frame_reading.specs.Reading.{read_of, is_station, data_size}
-use Rattle.frame_reading.specs.Reading as reading
-use Rattle.frame_reading.specs.Reading as reading
 use Rattle.ticking_quiet.specs.Many.{after_ticks, ticks_of}
-use Rattle.ticking_quiet.specs.ManyLaws.{ticks_answer, ticks_called}
-use Rattle.ticking_quiet.specs.Quiet as quiet
-use Rattle.ticking_quiet.specs.QuietExact.{quiet_exact}
+use Rattle.ticking_quiet.proofs.ManyLaws.{ticks_answer, ticks_called}
+use Rattle.ticking_quiet.proofs.QuietExact.{quiet_exact}
 use Rattle.refusals.specs.Applies.{applies, first_of}
-use Rattle.refusals.specs.FirstApplies.{first_applies}
-use Rattle.replay_lines.specs.Output as replayed
-use Rattle.replay_lines.specs.Replay as replay
+use Rattle.refusals.proofs.FirstApplies.{first_applies}
 use Rattle.ring.specs.Counts.{passes, silences, given, Does}
 use Rattle.ring.specs.Demand.{LastCall, Disturbed, RingSettles}
-use Rattle.ring.specs.DemandThree.{demand_three_whole}
+use Rattle.ring.proofs.DemandThree.{demand_three_whole}
 use Rattle.ring.specs.Events.{Stations, Event, after_event, AllName, CanCome}
-use Rattle.frame_round_trip.specs.ReadBack.{Sendable, fields_read, data_read}
-use Rattle.frame_round_trip.specs.WriteBack.{WrittenBack, written_back}
+use Rattle.frame_round_trip.proofs.ReadBack.{fields_read, data_read}
+use Rattle.frame_round_trip.specs.ReadBack.{Sendable}
+use Rattle.frame_round_trip.specs.WriteBack.{WrittenBack}
+use Rattle.frame_round_trip.proofs.WriteBack.{written_back}
 use Rattle.settle_print.specs.Joined.{handed, after_fills, printed_whole}
 use Rattle.settle_input.specs.Input.{read_of as ring_read}
-use Rattle.settle_input.specs.declared.Verdict.TheVariants as verdicts
 use Rattle.settle_rest.specs.Begun.{counts_read}
 use Rattle.settle_rest.specs.Rest.{printing_of, is_over}
 use Rattle.settle_rest.specs.Whole.{output_of}
 use Rattle.settle_run.specs.Run.{is_ring, settled_of, Bounded}
 use Rattle.settle_run.specs.Running.{running_of}
-use Rattle.settle_run.specs.Counted.{running_after, RightCounts, counts_run}
-use Rattle.settle_run.specs.Whole.{Whole as WholeRun, steps_from, settled_run, settled_bounded}
+use Rattle.settle_run.specs.Counted.{running_after, RightCounts}
+use Rattle.settle_run.proofs.Counted.{counts_run}
+use Rattle.settle_run.proofs.Whole.{settled_run, settled_bounded}
+use Rattle.settle_run.specs.Whole.{Whole as WholeRun, steps_from}
 use Rattle.settle_counts.specs.Counts.{counts_of, carried}
-use Rattle.settle_counts.specs.Kept.{counts_kept}
-use Rattle.settle_counts.specs.Total.{total_different}
+use Rattle.settle_counts.proofs.Kept.{counts_kept}
+use Rattle.settle_counts.proofs.Total.{total_different}
 use Rattle.settle_moves.specs.Moves.{view_after, moved}
 use Rattle.settling.specs.First.{FirstAgreement}
 use Rattle.settling.specs.Ring.{◌∈◌, Ascending, Views, Within, Agreed, move, Run}
-use Rattle.settling.specs.Ring as theory
-use Rattle.settling.specs.Steps as theorySteps
-use Rattle.settling.specs.Settling.{Settles, settles}
+use Rattle.settling.specs.Settling.{Settles}
+use Rattle.settling.proofs.Settling.{settles}
 use Rattle.settling.specs.Steps.{after_all, EachFinds}
 use Rattle.station.specs.Rules.Answers.{data_of}
 use Rattle.station.specs.States.Disjoint.{Apart}
-use Rattle.station.specs.Frames.FrameAccepted.{frame_asked, frame_accepted}
+use Rattle.station.proofs.Frames.FrameAccepted.{frame_asked, frame_accepted}
 use Rattle.station.specs.Rules.Asking.{ask_of, due_fields}
 use Rattle.station.specs.Rules.Calls.{Call, tick, hear, ask, after, lent, lent_after, refused_by, unrefused, verdict}
 use Rattle.station.specs.Memory.Gathers.{Parts}
 use Rattle.station.specs.Rules.Hearing.{hear_of, knows, lent_right}
 use Rattle.station.specs.Panel.History.{step_of, state_after, history, participates, takings, last_gap}
-use Rattle.station.specs.Memory.MemorySame.{Whole, memory_same}
-use Rattle.station.specs.Memory.OursKept.{InAreas, ours_kept}
-use Rattle.station.specs.Panel.PanelIsGap.{panel_is_gap}
+use Rattle.station.proofs.Memory.MemorySame.{memory_same, Whole}
+use Rattle.station.proofs.Memory.OursKept.{ours_kept, InAreas}
+use Rattle.station.proofs.Panel.PanelIsGap.{panel_is_gap}
 use Rattle.station.specs.States.Reachable.{Reachable, Sound, has_view}
-use Rattle.station.specs.States.Reached.{AllTyped, sound_after, apart_after}
-use Rattle.station.specs.RefusedLeft.{Spared, same, turned_off, refused_left}
+use Rattle.station.proofs.States.Reached.{sound_after, apart_after}
+use Rattle.station.specs.States.Reached.{AllTyped}
+use Rattle.station.proofs.RefusedLeft.{refused_left}
+use Rattle.station.specs.RefusedLeft.{Spared, same, turned_off}
 use Rattle.station.specs.Rules.Showing.{figure_shown}
 use Rattle.station.specs.Rules.Starting.{request_fallen}
 use Rattle.station.specs.Rules.State.{never, is_off, is_participating, stopped}
 use Rattle.station.specs.Rules.Ticking.{tick_of, watch_ends}
 use Rattle.station.specs.Rules.Waits.{counts_as}
-use Rattle.station.specs.Memory.KeptRepeated.{PassedOver, Again, is_latest, repeat_passed, kept_repeated}
-use Rattle.station.specs.Memory.RepeatSaid.{Repeats, repeat_said, repeat_long}
-use Rattle.station.specs.Memory.TurnWhole.{Lending, turn_whole}
-use Rattle.station.specs.Memory.TurnWritten.{Turned, turn_written}
+use Rattle.station.proofs.Memory.KeptRepeated.{repeat_passed, kept_repeated, PassedOver, Again, is_latest}
+use Rattle.station.proofs.Memory.RepeatSaid.{repeat_said, repeat_long}
+use Rattle.station.specs.Memory.RepeatSaid.{Repeats}
+use Rattle.station.proofs.Memory.TurnWhole.{turn_whole}
+use Rattle.station.specs.Memory.TurnWhole.{Lending}
+use Rattle.station.proofs.Memory.TurnWritten.{turn_written, Turned}
 use Rattle.station.specs.declared.Asked.TheVariants.{Octets}
-use Rattle.station.specs.declared.Heard.TheVariants as heard
 use Rattle.station.specs.Types.{Areas, Part, Fields, Refusal, Frame, Refused}
 use Rattle.station.specs.declared.Phase.{Phase}
 use Rattle.station.specs.declared.Phase.TheVariants.{Off, Listening, Startup, Joining, Participating}
 use Rattle.station.specs.declared.Station.{Station}
 use Rattle.station.specs.declared.Data.TheVariants.{Written, Repeat}
-use Rattle.station.specs.declared.Data.TheVariants as outcomes
 use Rattle.station.specs.declared.Token.{Token}
 use Rattle.settle_views.specs.Views.{stations_of, views_of, different_views}
 use Rattle.settle_views.specs.Proper.{Proper}
 use Rattle.settle_views.specs.declared.Ring.{Ring}
 use Rattle.frame_writing.specs.Writing.{frame_of, fixed}
+use Rattle.block.specs.Cut as cut
+use Rattle.decode_line.specs.Gathering as decoded
+use Rattle.text_feeding.proofs.Lines as lines
+use Rattle.frame_reading.specs.Reading as reading
+use Rattle.ticking_quiet.specs.Quiet as quiet
+use Rattle.replay_lines.specs.Output as replayed
+use Rattle.replay_lines.specs.Replay as replay
+use Rattle.settle_input.specs.declared.Verdict.TheVariants as verdicts
+use Rattle.settling.specs.Ring as theory
+use Rattle.settling.specs.Steps as theory_steps
+use Rattle.station.specs.declared.Heard.TheVariants as heard
+use Rattle.station.specs.declared.Data.TheVariants as outcomes
 
 -- THE FIRST PRINTED LINE: the refresh cycle on the front panel.
 

@@ -1,7 +1,8 @@
 -- Paper 01, "Numbers the station answers with", and E5 of paper 02: for each number, the calls and states to which it applies. Each definition says when its own
 -- condition holds, whatever the other numbers say of the same call. Which one is answered where several apply is the table `order` of
 -- crates/frame_refusals/specs/Refusals.antt. A refusal that a change request adds gets a definition of its own here, and a clause of `applies`.
-use Rattle.laws.specs.Usual.{Bool, false, cond, not, ◌&&◌, ◌||◌, List, [], ◌∷◌, ℕ, ◌-◌, length, eqb, ltb}
+use Rattle.std.specs.Prelude.{◌&&◌, ◌||◌, ◌∷◌, ◌-◌}
+use Rattle.laws.specs.Usual.{[], Bool, false, cond, not, List, ℕ, length, eqb, ltb}
 use Rattle.area.specs.Areas.{in_range, memory_octets}
 use Rattle.block.specs.Blocks.{blocks_of, length_of}
 use Rattle.frame.specs.Codes.{code_of, is_known, is_token, is_cyclic, carries_areas}

@@ -1,86 +1,85 @@
 -- Calls to which one number applies, or several, or none, each worked out by the rules and by the table. Assumes nothing.
-use Rattle.laws.specs.Usual.{◌≡◌, refl, List, [], ◌∷◌, map, ℕ, set, replicate}
+use Rattle.std.specs.Prelude.{◌∷◌}
+use Rattle.laws.specs.Usual.{[], List, ℕ, set, replicate}
 use Rattle.area.specs.Areas.{memory_octets}
 use Rattle.frame.specs.Positions.{TFL, TCD, C_SZ1, CBN, TBN, BSIZE}
 use Rattle.frame_refusals.specs.Refusals.{number_of}
 use Rattle.members.specs.Listing.{listing}
 use Rattle.members.specs.Members.{no_members}
-use Rattle.frame_reading.specs.Reading.{fields_of}
 use Rattle.frame_round_trip.specs.Sent.{block_fields, request_fields, trigger_fields}
-use Rattle.station.specs.Rules.Calls.{Call, start, stop, tick, hear, ask, Verdict, refused_by, unrefused, verdict, after}
+use Rattle.station.specs.Rules.Calls.{Call, start, stop, tick, hear, ask, Verdict, refused_by, unrefused, after}
 use Rattle.station.specs.Rules.State.{fresh, stopped, begun}
 use Rattle.station.specs.Types.{Milliseconds, Areas}
 use Rattle.station.specs.declared.Settings.{Settings}
 use Rattle.station.specs.declared.Phase.TheVariants.{Listening}
 use Rattle.station.specs.declared.Station.{Station}
-use Rattle.frame_writing.specs.Writing.{no_areas, frame_of, header_of, front_of, back_of, fixed_for}
-use Rattle.refusals.specs.Applies.{first_applying}
+use Rattle.frame_writing.specs.Writing.{no_areas, frame_of}
 
 -- the number that a call is answered with, 0 where it is not refused
 abbrev pub number_in : Verdict → ℕ
 number_in unrefused = 0
 number_in (refused_by refusal) = number_of refusal
 
-abbrev watch : Milliseconds
+abbrev pub watch : Milliseconds
 watch = record { 0 = 20 }
 
 -- areas of which the first leaves its range
-abbrev too_large : Areas
+abbrev pub too_large : Areas
 too_large = record { one = record { address = 0; size = 513 }; two = record { address = 0; size = 0 } }
 
-abbrev settings_of : ℕ → Areas → ℕ → Settings
+abbrev pub settings_of : ℕ → Areas → ℕ → Settings
 settings_of number areas time = record { number = number; areas = areas; watch = record { 0 = time } }
 
-abbrev settings : Settings
+abbrev pub settings : Settings
 settings = settings_of 7 no_areas 20
 
 -- station 7: listening, stopped again, and participating with station 3 in its list and in view
-abbrev listening : Station
+abbrev pub listening : Station
 listening = fresh Listening settings
 
-abbrev off : Station
+abbrev pub off : Station
 off = stopped listening
 
-abbrev participant : Station
+abbrev pub participant : Station
 participant = begun settings (listing no_members 3 no_areas watch no_areas) 3
 
-abbrev large : List ℕ
+abbrev pub large : List ℕ
 large = replicate memory_octets 0
 
 -- octets heard, with buffers of the right length
-abbrev hears : List ℕ → Call
+abbrev pub hears : List ℕ → Call
 hears octets = hear octets large large
 
 -- a token frame, 64 octets, of an empty turn
-abbrev token : ℕ → ℕ → List ℕ
+abbrev pub token : ℕ → ℕ → List ℕ
 token source destination = frame_of (block_fields source destination no_areas watch 1) []
 
-abbrev request : ℕ → List ℕ
+abbrev pub request : ℕ → List ℕ
 request source = frame_of (request_fields source no_areas watch) []
 
-abbrev trigger : ℕ → List ℕ
+abbrev pub trigger : ℕ → List ℕ
 trigger source = frame_of (trigger_fields source) []
 
 -- the same octets with another mark, length, code, first area, total, block number or block length
-abbrev unmarked : List ℕ → List ℕ
+abbrev pub unmarked : List ℕ → List ℕ
 unmarked octets = set octets 0 0
 
-abbrev longer : List ℕ → List ℕ
+abbrev pub longer : List ℕ → List ℕ
 longer octets = set octets TFL 1
 
-abbrev uncoded : List ℕ → List ℕ
+abbrev pub uncoded : List ℕ → List ℕ
 uncoded octets = set octets TCD 0
 
-abbrev widened : List ℕ → List ℕ
+abbrev pub widened : List ℕ → List ℕ
 widened octets = set octets C_SZ1 255
 
-abbrev recounted : ℕ → List ℕ → List ℕ
+abbrev pub recounted : ℕ → List ℕ → List ℕ
 recounted total octets = set octets TBN total
 
-abbrev renumbered : ℕ → List ℕ → List ℕ
+abbrev pub renumbered : ℕ → List ℕ → List ℕ
 renumbered number octets = set octets CBN number
 
-abbrev resized : List ℕ → List ℕ
+abbrev pub resized : List ℕ → List ℕ
 resized octets = set octets BSIZE 1
 
 -- a call in a state, and the number that it is answered with
@@ -89,7 +88,7 @@ pub record Row : Type 0 where
   pub call : Call
   pub number : ℕ
 
-abbrev row : Station → Call → ℕ → Row
+abbrev pub row : Station → Call → ℕ → Row
 row station call number = record { station = station; call = call; number = number }
 
 abbrev pub rows : List Row
@@ -142,13 +141,3 @@ rows =
     ∷ row participant (hears (token 3 7)) 0
     ∷ row (after participant (hears (token 3 7))) (ask large large (replicate 1088 0)) 0
     ∷ []
-
--- the rules answer each with its number,
-pub by_rules : map (λ (r : Row). number_in (verdict r.station r.call)) rows ≡ map (λ (r : Row). r.number) rows
-unfolding header_of front_of back_of fixed_for fields_of
-by_rules = refl
-
--- and so does the table
-pub by_table : map (λ (r : Row). number_in (first_applying r.station r.call)) rows ≡ map (λ (r : Row). r.number) rows
-unfolding header_of front_of back_of fixed_for fields_of
-by_table = refl

@@ -1,5 +1,7 @@
 // `ask`: a station that `replay` keeps is asked for a frame.
-ghost use Rattle.laws.specs.Usual.{◌≡◌, ◌++◌, ◌≤◌, length, take, drop};
+#![tactic(auto)]
+ghost use Rattle.std.specs.Prelude.{◌≡◌, ◌++◌, ◌≤◌};
+ghost use Rattle.laws.specs.Usual.{length, take, drop};
 ghost use Rattle.boundary_told.specs.Told.{asked_told};
 ghost use Rattle.copying.specs.Pasted.{pasted};
 ghost use Rattle.message_rules.specs.Rules.Calls.{ask_of};

@@ -1,5 +1,6 @@
 -- Lines and what they mean. Assumes nothing.
-use Rattle.laws.specs.Usual.{◌≡◌, refl, [], ◌∷◌}
+use Rattle.std.specs.Prelude.{◌≡◌, ◌∷◌}
+use Rattle.laws.specs.Usual.{refl, []}
 use Rattle.replay_commands.specs.Commands.{command_of}
 use Rattle.replay_commands.specs.declared.Command.TheVariants.{Start, Tick, Hear, Poke, Peek, Bad}
 

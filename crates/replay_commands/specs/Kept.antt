@@ -1,5 +1,6 @@
 -- What is kept of a `hear` line, whatever its length, spells the first of its octets. Assumes nothing.
-use Rattle.laws.specs.Usual.{◌≡◌, sym, ap, ◌∙◌, Bool, cond, List, [], ℕ, ◌+◌, ◌*◌, ◌≤◌, arith, length, take, drop}
+use Rattle.std.specs.Prelude.{◌≡◌, ◌+◌, ◌*◌, ◌≤◌}
+use Rattle.laws.specs.Usual.{sym, ap, ◌∙◌, Bool, cond, List, [], ℕ, arith, length, take, drop}
 use Rattle.std.proofs.Math.Decide.{dec_le}
 use Rattle.std.proofs.Common.{length-take, length-drop, drop_of_length-le, take_all, take-take, take-add, drop_at, length-take-le, le-leb}
 use Rattle.std.proofs.lemmas.Bool.{lt-leb}

@@ -1,8 +1,8 @@
 -- A line that came octet by octet, into a buffer of 34,823 octets, means what the whole line means, whatever its length. Assumes nothing.
-use Rattle.laws.specs.Usual.{◌≡◌, refl, sym, ap, ap₂, ◌∙◌, Bool, true, false, cond, not, ◌&&◌, List, [], ◌∷◌, ◌++◌, ℕ, suc, ◌+◌, ◌-◌, ◌/◌, ◌%◌, ◌<◌, ◌≤◌, arith, length, take, drop, set, eqb, leb, ltb}
+use Rattle.laws.specs.Usual.{refl, sym, ap, ap₂, ◌∙◌, Bool, true, false, cond, not, List, [], ℕ, suc, arith, length, take, drop, set, eqb, leb, ltb}
 use Rattle.std.proofs.Math.Bool.{not-not}
 use Rattle.std.proofs.Common.{append-nil, append_assoc, add-one, length-append, length-drop, length-set, drop_of_length-le, take_all, take-suc-set, lt-ltb, le-ltb, le-leb, eq-eqb, ne_eqb}
-use Rattle.std.specs.Prelude.{zero}
+use Rattle.std.specs.Prelude.{◌≡◌, ◌&&◌, ◌∷◌, ◌++◌, ◌+◌, ◌-◌, ◌/◌, ◌%◌, ◌<◌, ◌≤◌, zero}
 use Rattle.std.proofs.Math.Decide.{dec_le, dec_lt}
 use Rattle.std.proofs.Math.Seq.{take-nil, set_out}
 use Rattle.std.proofs.lemmas.List.{take-append-le, drop-append-le}

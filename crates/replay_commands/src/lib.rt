@@ -1,4 +1,5 @@
 // What a line of the program `replay`'s input means.
+#![tactic(auto)]
 ghost use Rattle.std.specs.Prelude.{◌≡◌};
 ghost use Rattle.replay_words.specs.Words.{words_behind};
 ghost use Rattle.replay_commands.specs.Commands.{start_by, start_of, tick_of, poke_by, poke_of, peek_of, hear_of, numbered, short_of, command_by, command_in};
@@ -12,27 +13,27 @@ use text_octets::size_of;
 use units::Milliseconds;
 
 // Where the hexadecimal digits of a command start in its line, and how many of the octets that they spell are kept.
-#[derive(Drop)]
+#[derive(Clone, Copy)]
 pub struct Octets {
     pub digits: usize,
     pub count: usize,
 }
 
 // The place in the common memory, where the hexadecimal digits start in the line, and how many octets they spell.
-#[derive(Drop)]
+#[derive(Clone, Copy)]
 pub struct Poke {
     pub at: usize,
     pub digits: usize,
     pub count: usize,
 }
 
-#[derive(Drop)]
+#[derive(Clone, Copy)]
 pub struct Peek {
     pub at: usize,
     pub length: usize,
 }
 
-#[derive(Drop)]
+#[derive(Clone, Copy)]
 pub enum Command {
     Start(Settings),
     Stop,

@@ -1,4 +1,5 @@
 // What a line of the program `replay`'s input means that has numbers alone: `tick`, `ask` and `peek`.
+#![tactic(auto)]
 ghost use mathlib.Core.Path.{◌≡◌};
 ghost use Rattle.replay_words.specs.Words.{words_behind};
 ghost use Rattle.replay_table.specs.Commands.{tick_of, ask_of, peek_of};

@@ -1,4 +1,5 @@
 // What a `start` line of the program `replay`'s input means.
+#![tactic(auto)]
 ghost use mathlib.Core.Path.{◌≡◌};
 ghost use Rattle.replay_words.specs.Words.{words_behind};
 ghost use Rattle.replay_table.specs.Commands.{start_by, start_of};

@@ -1,5 +1,6 @@
 -- Of octets that are longer than any frame, the first 1121 are heard as all of them are. Assumes nothing.
-use Rattle.laws.specs.Usual.{◌≡◌, refl, ap, ◌∙◌, Bool, true, false, List, ℕ, ◌<◌, ◌≤◌, arith, length, take}
+use Rattle.std.specs.Prelude.{◌≡◌, ◌<◌, ◌≤◌}
+use Rattle.laws.specs.Usual.{refl, ap, ◌∙◌, Bool, true, false, List, ℕ, arith, length, take}
 use native.Mathlib.Decide.{dec_le}
 use lib.Seq.{length-take-le, take_all}
 use borrow.Author.Tests.{lt-leb, le-leb}

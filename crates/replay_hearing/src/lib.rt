@@ -1,5 +1,7 @@
 // `hear`: octets heard by a station that `replay` keeps.
-ghost use Rattle.laws.specs.Usual.{◌≡◌, length};
+#![tactic(auto)]
+ghost use Rattle.std.specs.Prelude.{◌≡◌};
+ghost use Rattle.laws.specs.Usual.{length};
 ghost use Rattle.copying.specs.Pasted.{pasted};
 ghost use Rattle.message_answers.specs.Numbers.{received_told};
 ghost use Rattle.message_rules.specs.Rules.Calls.{hear_of};
@@ -11,7 +13,7 @@ use message_answers::Reception;
 use replay_station::{Arrays, Reply};
 
 // The station after a hearing, and the answer in numbers.
-#[derive(Drop)]
+#[derive(Clone, Copy)]
 struct Heard {
     station: Arrays,
     reception: Reception,

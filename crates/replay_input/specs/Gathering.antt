@@ -1,5 +1,6 @@
 -- A line that comes octet by octet, into a buffer of limited length.
-use Rattle.laws.specs.Usual.{Bool, true, false, cond, not, ◌&&◌, List, ℕ, ◌+◌, ◌-◌, ◌/◌, set, leb, ltb}
+use Rattle.std.specs.Prelude.{◌&&◌, ◌+◌, ◌-◌, ◌/◌}
+use Rattle.laws.specs.Usual.{Bool, true, false, cond, not, List, ℕ, set, leb, ltb}
 use Rattle.text_hexadecimal.specs.Octets.{is_hexadecimal}
 use Rattle.text_scanning.specs.Scanning.{push_all, store_all, scan_of, buffer_of}
 use Rattle.replay_input.specs.declared.Line.{Line}

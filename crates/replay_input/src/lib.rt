@@ -1,11 +1,13 @@
 // A line of the program `replay`'s input. It comes octet by octet, so that a line of any length needs no more memory than the longest command
 // that is not a `hear`.
-ghost use Rattle.laws.specs.Usual.{◌≡◌};
+#![tactic(auto)]
+
+ghost use Rattle.std.specs.Prelude.{◌≡◌};
 ghost use Rattle.replay_input.specs.Gathering.{fresh, size_in};
 
 // A line so far: the number of its octets, at most 34,824, of which the first 34,823 are stored at the front of the buffer; whether all
 // octets from place 5 on are hexadecimal digits, and whether the number of these is odd.
-#[derive(Drop)]
+#[derive(Clone, Copy)]
 pub struct Line {
     pub count: usize,
     pub digits: bool,
@@ -13,7 +15,7 @@ pub struct Line {
 }
 
 // What a part of a text did to a line: what has come of the line, the place in the text behind it, and whether the line has ended.
-#[derive(Drop)]
+#[derive(Clone, Copy)]
 pub struct Scanned {
     pub line: Line,
     pub next: usize,

@@ -1,11 +1,11 @@
 -- What an input does: each of its lines does what the whole line means, in their order, and a last line without its line feed is `bad` and
 -- does nothing. Assumes nothing.
-use Rattle.laws.specs.Usual.{◌≡◌, refl, ap, ap₂, ◌∙◌, Bool, true, false, cond, not, ◌&&◌, List, [], ◌∷◌, ◌++◌, ℕ, ◌+◌, ◌<◌, arith, length, set, leb, ltb}
+use Rattle.std.specs.Prelude.{◌≡◌, ◌&&◌, ◌∷◌, ◌++◌, ◌+◌, ◌<◌}
+use Rattle.laws.specs.Usual.{refl, ap, ap₂, ◌∙◌, Bool, true, false, cond, not, List, [], ℕ, arith, length, set, leb, ltb}
 use Rattle.std.proofs.Common.{length-set, lt-ltb}
 use Rattle.replay_commands.specs.Commands.{command_of}
 use Rattle.text_scanning.specs.Scanning.{NoFeed}
-use Rattle.text_feeding.specs.Feeding as feeding
-use Rattle.text_feeding.specs.Lines.{parted, Meaning, after_all, replies_to, Meant, Came, text_came}
+use Rattle.text_feeding.proofs.Lines.{parted, Meaning, after_all, replies_to, Meant, Came, text_came}
 use Rattle.replay_input.specs.Gathering.{longest, fresh, pushed, pushed_all, buffer_all}
 use Rattle.replay_input.specs.declared.Line.{Line}
 use Rattle.replay_performing.specs.Lines.{line_performed}
@@ -15,6 +15,7 @@ use Rattle.text_hexadecimal.specs.Octets.{is_hexadecimal}
 use Rattle.replay_end.specs.End.{answer_to_rest}
 use Rattle.replay_lines.specs.Replay.{Carried, carried, line_done, replay, after, start, output_of}
 use Rattle.replay_lines.specs.Scanned.{pushed_both}
+use Rattle.text_feeding.specs.Feeding as feeding
 
 -- each line meets what the one before it left, and does what `performed` says of the command that the whole line means
 abbrev pub by_line : Meaning Kept

@@ -1,5 +1,6 @@
 -- The program `replay`: commands come octet by octet, and each line is answered by one line.
-use Rattle.laws.specs.Usual.{◌≡◌, List, ◌++◌, ℕ, set, replicate}
+use Rattle.std.specs.Prelude.{◌≡◌, ◌++◌}
+use Rattle.laws.specs.Usual.{List, ℕ, set, replicate}
 use Rattle.replay_commands.specs.Commands.{command_in}
 use Rattle.text_feeding.specs.Feeding.{Program, fed_all, answered_all}
 use Rattle.replay_input.specs.Gathering.{fresh, pushed}

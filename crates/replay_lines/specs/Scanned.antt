@@ -1,15 +1,17 @@
 -- A scan of a part of the input takes it octet by octet. Assumes nothing.
-use Rattle.laws.specs.Usual.{◌≡◌, refl, List, [], ◌∷◌, ℕ, drop, set}
-use Rattle.text_feeding.specs.Feeding as feeding
-use Rattle.text_feeding.specs.Cut.{Cut, feed, clean, cut}
-use Rattle.text_feeding.specs.Scan.{Scan, scan_feed, scan_clean}
+use Rattle.std.specs.Prelude.{◌≡◌, ◌∷◌}
+use Rattle.laws.specs.Usual.{refl, List, [], ℕ, drop, set}
+use Rattle.text_feeding.proofs.Cut.{cut}
+use Rattle.text_feeding.specs.Cut.{Cut, feed, clean}
+use Rattle.text_feeding.proofs.Scan.{scan_feed, scan_clean, Scan}
 use Rattle.replay_input.specs.Gathering.{pushed, made, scanned, buffer_scanned, pushed_all, buffer_all}
 use Rattle.text_scanning.specs.Scans.{scan_part, buffer_part, scan_line, buffer_line}
-use Rattle.replay_input.specs.Gathering as input
 use Rattle.replay_input.specs.declared.Line.{Line}
 use Rattle.replay_input.specs.declared.Scanned.{Scanned}
 use Rattle.replay_performing.specs.Replaying.{Kept}
 use Rattle.replay_lines.specs.Replay.{carried, replay}
+use Rattle.text_feeding.specs.Feeding as feeding
+use Rattle.replay_input.specs.Gathering as input
 
 -- the line and what is stored of it are pushed octet by octet, and nothing else changes
 pub pushed_both : (octets : List ℕ) (kept : Kept) (line : Line) (stored : List ℕ) →

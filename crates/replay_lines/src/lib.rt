@@ -1,5 +1,7 @@
 // The input of the program `replay`, taken line by line: what the octets of a part do to a station and its buffers, and what is answered.
-ghost use Rattle.laws.specs.Usual.{◌≡◌, ◌<◌, length};
+#![tactic(auto)]
+ghost use Rattle.std.specs.Prelude.{◌≡◌, ◌<◌};
+ghost use Rattle.laws.specs.Usual.{length};
 ghost use Rattle.copying.specs.Pasted.{pasted};
 ghost use Rattle.text_feeding.specs.Feeding.{between, ended, Forward};
 ghost use Rattle.replay_performing.specs.Replaying.{keeping};
@@ -10,7 +12,7 @@ use replay_performing::Reply;
 use station::Station;
 
 // The station, the line so far, the place in the part of the input that is being read, and whether to go on.
-#[derive(Drop)]
+#[derive(Clone, Copy)]
 pub struct Going {
     pub station: Station,
     pub line: Line,
@@ -20,7 +22,7 @@ pub struct Going {
 
 // What the next line feed, or the end of a part, leaves: the station, the line so far, the place behind, whether a line has ended there, and
 // the length of its answer.
-#[derive(Drop)]
+#[derive(Clone, Copy)]
 pub struct Next {
     pub station: Station,
     pub line: Line,

@@ -1,5 +1,6 @@
 -- Parts of a list, and octets put in front of one. Assumes nothing.
-use Rattle.laws.specs.Usual.{◌≡◌, sym, ap, ◌∙◌, List, ℕ, ◌-◌, ◌≤◌, arith, length, take, drop}
+use Rattle.std.specs.Prelude.{◌≡◌, ◌-◌, ◌≤◌}
+use Rattle.laws.specs.Usual.{sym, ap, ◌∙◌, List, ℕ, arith, length, take, drop}
 use lib.ListN.{length-drop}
 use lib.Seq.{take_all}
 use borrow.Rule.Slice.PartMut.{put_mid, mid_of, mid_len}

@@ -1,5 +1,6 @@
 -- Of octets that are longer than any frame, the first 1121 are heard as all of them are. Assumes nothing.
-use Rattle.laws.specs.Usual.{◌≡◌, ap, List, ℕ, ◌<◌, ◌≤◌, arith, length, take}
+use Rattle.std.specs.Prelude.{◌≡◌, ◌<◌, ◌≤◌}
+use Rattle.laws.specs.Usual.{ap, List, ℕ, arith, length, take}
 use Rattle.std.proofs.Math.Decide.{dec_le}
 use Rattle.std.proofs.Common.{length-take-le, take_all, le-leb}
 use Rattle.std.proofs.lemmas.Bool.{lt-leb}

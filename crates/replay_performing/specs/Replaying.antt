@@ -1,5 +1,6 @@
 -- What each command does to a station and its buffers, and the line that is answered.
-use Rattle.laws.specs.Usual.{List, ℕ, ◌-◌, ◌*◌, length, take, drop}
+use Rattle.std.specs.Prelude.{◌-◌, ◌*◌}
+use Rattle.laws.specs.Usual.{List, ℕ, length, take, drop}
 use Rattle.text_hexadecimal.specs.Octets.{octets_of}
 use Rattle.replay_commands.specs.declared.Command.{Command}
 use Rattle.replay_commands.specs.declared.Command.TheVariants.{Start, Stop, Tick, Hear, Ask, Panel, Poke, Peek, State, Bad}

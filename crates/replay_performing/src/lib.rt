@@ -1,5 +1,7 @@
 // What a command does to a station and its buffers, and the line that is answered, which is written in front of a lent answer.
-ghost use Rattle.laws.specs.Usual.{◌≡◌, length, take, drop};
+#![tactic(auto)]
+ghost use Rattle.std.specs.Prelude.{◌≡◌};
+ghost use Rattle.laws.specs.Usual.{length, take, drop};
 ghost use Rattle.text_hexadecimal.specs.Octets.{octets_of};
 ghost use Rattle.copying.specs.Pasted.{pasted};
 ghost use Rattle.ticking_quiet.specs.Many.{ticks_of};
@@ -17,7 +19,7 @@ use starting::Switching;
 use station::Station;
 
 // The state after a command, and the length of the line that is answered.
-#[derive(Drop)]
+#[derive(Clone, Copy)]
 pub struct Reply {
     pub station: Station,
     pub length: usize,

@@ -1,5 +1,6 @@
 -- Octets put in front of a part of a list. Assumes nothing.
-use Rattle.laws.specs.Usual.{◌≡◌, ap, ◌∙◌, List, ℕ, ◌-◌, arith, length, take}
+use Rattle.std.specs.Prelude.{◌≡◌, ◌-◌}
+use Rattle.laws.specs.Usual.{ap, ◌∙◌, List, ℕ, arith, length, take}
 use borrow.Rule.Slice.PartMut.{put_mid, mid_of, mid_len}
 use Rattle.copying.specs.Laws.{paste_part}
 use Rattle.copying.specs.Pasted.{pasted}

@@ -1,5 +1,7 @@
 // `poke` and `peek`: octets of the common memory written and shown.
-ghost use Rattle.laws.specs.Usual.{◌≡◌, length, take, drop};
+#![tactic(auto)]
+ghost use Rattle.std.specs.Prelude.{◌≡◌};
+ghost use Rattle.laws.specs.Usual.{length, take, drop};
 ghost use Rattle.copying.specs.Pasted.{pasted};
 ghost use Rattle.replay_poking.specs.Poked.{poked_by};
 ghost use Rattle.replay_reply_shown.specs.Shown.{octets_text};

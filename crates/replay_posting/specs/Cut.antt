@@ -1,5 +1,6 @@
 -- Of a message's data that are longer than any, the first 1025 octets are handed in as all of them are. Assumes nothing.
-use Rattle.laws.specs.Usual.{◌≡◌, ap, false, List, ℕ, ◌≤◌, arith, length, take, leb}
+use Rattle.std.specs.Prelude.{◌≡◌, ◌≤◌}
+use Rattle.laws.specs.Usual.{ap, false, List, ℕ, arith, length, take, leb}
 use native.Mathlib.Decide.{dec_le}
 use lib.Seq.{length-take-le, take_all}
 use borrow.Author.Tests.{lt-leb}

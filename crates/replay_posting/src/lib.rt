@@ -1,5 +1,7 @@
 // `post`: a message handed in to a station that `replay` keeps.
-ghost use Rattle.laws.specs.Usual.{◌≡◌, length};
+#![tactic(auto)]
+ghost use Rattle.std.specs.Prelude.{◌≡◌};
+ghost use Rattle.laws.specs.Usual.{length};
 ghost use Rattle.copying.specs.Pasted.{pasted};
 ghost use Rattle.message_answers.specs.Numbers.{posted_answer};
 ghost use Rattle.replay_replies.specs.Replies.{posted_text};

@@ -2,9 +2,9 @@
 use Rattle.laws.specs.Usual.{List, ℕ}
 use Rattle.replay_reply_outcome.specs.Outcome.{outcome_text}
 use Rattle.replay_reply_words.specs.Answers.{done_text, off_text, refused_text}
-use Rattle.station.specs.declared.Heard.TheVariants as heard
 use Rattle.station.specs.declared.Switched.{Switched}
 use Rattle.station.specs.declared.Heard.{Heard}
+use Rattle.station.specs.declared.Heard.TheVariants as heard
 use Rattle.station.specs.declared.Switched.TheVariants as switched
 
 -- `start` and `stop`

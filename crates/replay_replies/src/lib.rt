@@ -1,6 +1,8 @@
 // The line that `replay` prints for what a station answers to `start`, `stop` and `hear`, written in front of a lent output. Each function
 // answers the line's length.
-ghost use Rattle.laws.specs.Usual.{◌≡◌, ◌≤◌, length};
+#![tactic(auto)]
+ghost use Rattle.std.specs.Prelude.{◌≡◌, ◌≤◌};
+ghost use Rattle.laws.specs.Usual.{length};
 ghost use Rattle.copying.specs.Pasted.{pasted};
 ghost use Rattle.replay_replies.specs.Replies.{switched_text, heard_text};
 

@@ -1,10 +1,11 @@
 -- The line that `replay` prints for what a station answers to `ask`. It ends in a line feed.
-use Rattle.laws.specs.Usual.{List, [], ◌∷◌, ℕ, take}
+use Rattle.std.specs.Prelude.{◌∷◌}
+use Rattle.laws.specs.Usual.{List, [], ℕ, take}
 use Rattle.replay_reply_parts.specs.Hex.{hex_of}
 use Rattle.replay_reply_parts.specs.Lines.{ended, spaced}
 use Rattle.replay_reply_words.specs.Answers.{refused_text}
-use Rattle.station.specs.declared.Asked.TheVariants as asked
 use Rattle.station.specs.declared.Asked.{Asked}
+use Rattle.station.specs.declared.Asked.TheVariants as asked
 
 -- "frame"
 abbrev pub frame_word : List ℕ

@@ -1,5 +1,7 @@
 // The line that `replay` prints for what a station answers to `ask`, written in front of a lent output. Each function answers the line's length.
-ghost use Rattle.laws.specs.Usual.{◌≡◌, ◌+◌, ◌*◌, ◌≤◌, length};
+#![tactic(auto)]
+ghost use Rattle.std.specs.Prelude.{◌≡◌, ◌+◌, ◌*◌, ◌≤◌};
+ghost use Rattle.laws.specs.Usual.{length};
 ghost use Rattle.copying.specs.Pasted.{pasted};
 ghost use Rattle.replay_reply_parts.specs.Hex.{hex_of};
 ghost use Rattle.replay_reply_parts.specs.Lines.{ended, spaced};

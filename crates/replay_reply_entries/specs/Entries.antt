@@ -1,5 +1,6 @@
 -- The station list as text. Numbers are in decimal with no leading zeros.
-use Rattle.laws.specs.Usual.{cond, List, [], ◌∷◌, ◌++◌, ℕ, suc}
+use Rattle.std.specs.Prelude.{◌∷◌, ◌++◌}
+use Rattle.laws.specs.Usual.{cond, List, [], ℕ, suc}
 use Rattle.members.specs.declared.Entry.{Entry}
 use Rattle.replay_reply_parts.specs.Lines.{colon}
 use Rattle.text.specs.Decimal.{decimal_of}

@@ -1,5 +1,6 @@
 -- Laws for the loop over the entries. Assumes nothing.
-use Rattle.laws.specs.Usual.{◌≡◌, sym, ap, ap₂, ◌∙◌, List, [], ◌∷◌, ◌++◌, ℕ, suc, ◌+◌, ◌<◌, arith, length, get_or, take}
+use Rattle.std.specs.Prelude.{◌≡◌, ◌∷◌, ◌++◌, ◌+◌, ◌<◌}
+use Rattle.laws.specs.Usual.{sym, ap, ap₂, ◌∙◌, List, [], ℕ, suc, arith, length, get_or, take}
 use mathlib.Core.List.{append_assoc, append-nil}
 use native.Mathlib.Numerals.{add-one}
 use lib.Seq.{length-take-le, take-suc}

@@ -1,5 +1,6 @@
 -- How long the parts of the list's text can be. Assumes nothing.
-use Rattle.laws.specs.Usual.{Bool, true, false, cond, List, [], ◌∷◌, ◌++◌, ℕ, suc, ◌*◌, ◌≤◌, arith, length}
+use Rattle.std.specs.Prelude.{◌∷◌, ◌++◌, ◌*◌, ◌≤◌}
+use Rattle.laws.specs.Usual.{Bool, true, false, cond, List, [], ℕ, suc, arith, length}
 use lib.ListN.{length-append}
 use Rattle.members.specs.declared.Entry.{Entry}
 use Rattle.replay_reply_parts.specs.Lines.{colon}

@@ -1,5 +1,7 @@
 // The station list as text, from the arrays that C keeps. Where more follows a part of it, the part's contract bounds the place behind it.
-ghost use Rattle.laws.specs.Usual.{◌≡◌, ◌+◌, ◌≤◌, length};
+#![tactic(auto)]
+ghost use Rattle.std.specs.Prelude.{◌≡◌, ◌+◌, ◌≤◌};
+ghost use Rattle.laws.specs.Usual.{length};
 ghost use Rattle.boundary_lists.specs.Lists.{members_in};
 ghost use Rattle.copying.specs.Pasted.{pasted};
 ghost use Rattle.replay_reply_entries.specs.Entries.{pair_text, listed_text, entry_text, entries_from};

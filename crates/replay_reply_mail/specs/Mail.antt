@@ -1,5 +1,6 @@
 -- The line that `replay` prints for what became of the message in the slot. It ends in a line feed.
-use Rattle.laws.specs.Usual.{◌≡◌, refl, List, [], ◌∷◌, ℕ}
+use Rattle.std.specs.Prelude.{◌≡◌, ◌∷◌}
+use Rattle.laws.specs.Usual.{refl, List, [], ℕ}
 use Rattle.message.specs.Words.{mail_number}
 use Rattle.message.specs.declared.Mail.{Mail}
 use Rattle.message.specs.declared.Mail.TheVariants.{Nothing, Waiting, Unconfirmed, Confirmed, Sent, Failed}

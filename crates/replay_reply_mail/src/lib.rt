@@ -1,5 +1,7 @@
 // The line that `replay` prints for what became of the message in the slot, by its number.
-ghost use Rattle.laws.specs.Usual.{◌≡◌, ◌≤◌, length};
+#![tactic(auto)]
+ghost use Rattle.std.specs.Prelude.{◌≡◌, ◌≤◌};
+ghost use Rattle.laws.specs.Usual.{length};
 ghost use Rattle.copying.specs.Pasted.{pasted};
 ghost use Rattle.replay_reply_mail.specs.Mail.{mail_text_at};
 

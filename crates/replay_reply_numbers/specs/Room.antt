@@ -1,5 +1,6 @@
 -- How long numbers with marks can be, and one number more. Assumes nothing.
-use Rattle.laws.specs.Usual.{◌≡◌, sym, ap, ◌∙◌, List, [], ◌∷◌, ◌++◌, ℕ, ◌*◌, ◌≤◌, arith, length}
+use Rattle.std.specs.Prelude.{◌≡◌, ◌∷◌, ◌++◌, ◌*◌, ◌≤◌}
+use Rattle.laws.specs.Usual.{sym, ap, ◌∙◌, List, [], ℕ, arith, length}
 use mathlib.Core.List.{append_assoc, append-nil}
 use lib.ListN.{length-append}
 use Rattle.text.specs.Decimal.{decimal_of}

@@ -1,5 +1,7 @@
 // A part of the octets of a buffer, and octets in hexadecimal, in lower case.
-ghost use Rattle.laws.specs.Usual.{◌≡◌, ◌+◌, ◌*◌, ◌<◌, ◌≤◌, length, take, drop};
+#![tactic(auto)]
+ghost use Rattle.std.specs.Prelude.{◌≡◌, ◌+◌, ◌*◌, ◌<◌, ◌≤◌};
+ghost use Rattle.laws.specs.Usual.{length, take, drop};
 ghost use Rattle.copying.specs.Pasted.{pasted};
 ghost use Rattle.replay_reply_parts.specs.Hex.{digit_of, octet_text, hex_of};
 

@@ -1,5 +1,6 @@
 -- What became of the token and of the data, as words in ASCII and as a line.
-use Rattle.laws.specs.Usual.{List, [], ◌∷◌, ℕ}
+use Rattle.std.specs.Prelude.{◌∷◌}
+use Rattle.laws.specs.Usual.{List, [], ℕ}
 use Rattle.replay_reply_parts.specs.Lines.{ended, spaced}
 use Rattle.station.specs.Rules.Answers.{data_of}
 use Rattle.station.specs.declared.Data.{Data}

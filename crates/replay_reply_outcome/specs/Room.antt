@@ -1,5 +1,6 @@
 -- How long words can be. Assumes nothing.
-use Rattle.laws.specs.Usual.{◌≤◌, arith, length}
+use Rattle.std.specs.Prelude.{◌≤◌}
+use Rattle.laws.specs.Usual.{arith, length}
 use Rattle.station.specs.declared.Data.{Data}
 use Rattle.station.specs.declared.Data.TheVariants.{Kept, Written, Dropped, Repeat}
 use Rattle.replay_reply_outcome.specs.Outcome.{data_word}

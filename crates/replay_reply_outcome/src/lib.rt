@@ -1,5 +1,7 @@
 // The line for a cyclic frame that was accepted: what became of the token, then what became of the data.
-ghost use Rattle.laws.specs.Usual.{◌≡◌, ◌++◌, ◌+◌, ◌≤◌, length};
+#![tactic(auto)]
+ghost use Rattle.std.specs.Prelude.{◌≡◌, ◌++◌, ◌+◌, ◌≤◌};
+ghost use Rattle.laws.specs.Usual.{length};
 ghost use Rattle.copying.specs.Pasted.{pasted};
 ghost use Rattle.replay_reply_parts.specs.Lines.{ended};
 ghost use Rattle.replay_reply_outcome.specs.Outcome.{data_word, outcome_text};

@@ -1,5 +1,6 @@
 -- Two confirmations owed, worked out.
-use Rattle.laws.specs.Usual.{◌≡◌, refl, [], ◌∷◌, ℕ}
+use Rattle.std.specs.Prelude.{◌≡◌, ◌∷◌}
+use Rattle.laws.specs.Usual.{refl, [], ℕ}
 use Rattle.message.specs.declared.Confirmation.{Confirmation}
 use Rattle.text.specs.Decimal.{decimal_at}
 use Rattle.replay_reply_owed.specs.Owed.{owed_text}

@@ -1,5 +1,6 @@
 -- The loop over the confirmations owed: those that were written, and those that are left. Assumes nothing.
-use Rattle.laws.specs.Usual.{◌≡◌, refl, sym, ap, ◌∙◌, true, false, false≢true, List, [], ◌∷◌, ◌++◌, ℕ, ◌+◌, ◌<◌, ◌≤◌, arith, length, drop}
+use Rattle.std.specs.Prelude.{◌≡◌, ◌∷◌, ◌++◌, ◌+◌, ◌<◌, ◌≤◌}
+use Rattle.laws.specs.Usual.{refl, sym, ap, ◌∙◌, true, false, false≢true, List, [], ℕ, arith, length, drop}
 use mathlib.Core.List.{append_assoc, append-nil}
 use lib.ListN.{length-append}
 use Rattle.copying.specs.Laws.{paste_nothing}

@@ -1,5 +1,6 @@
 -- The line that `replay` prints for the confirmations owed. It ends in a line feed; numbers are in decimal with no leading zeros.
-use Rattle.laws.specs.Usual.{List, [], ◌∷◌, ◌++◌, ℕ}
+use Rattle.std.specs.Prelude.{◌∷◌, ◌++◌}
+use Rattle.laws.specs.Usual.{List, [], ℕ}
 use Rattle.message.specs.declared.Confirmation.{Confirmation}
 use Rattle.replay_reply_numbers.specs.Numbers.{numbers_text}
 use Rattle.replay_reply_parts.specs.Lines.{colon, ended}

@@ -1,5 +1,6 @@
 -- How long the parts of the line can be. Assumes nothing.
-use Rattle.laws.specs.Usual.{List, [], ◌∷◌, ◌++◌, ◌*◌, ◌≤◌, arith, length}
+use Rattle.std.specs.Prelude.{◌∷◌, ◌++◌, ◌*◌, ◌≤◌}
+use Rattle.laws.specs.Usual.{List, [], arith, length}
 use lib.ListN.{length-append}
 use Rattle.message.specs.declared.Confirmation.{Confirmation}
 use Rattle.replay_reply_numbers.specs.Numbers.{numbers_text}

@@ -1,5 +1,7 @@
 // The line that `replay` prints for the confirmations owed, from the numbers that C keeps.
-ghost use Rattle.laws.specs.Usual.{◌≡◌, ◌+◌, ◌≤◌, length};
+#![tactic(auto)]
+ghost use Rattle.std.specs.Prelude.{◌≡◌, ◌+◌, ◌≤◌};
+ghost use Rattle.laws.specs.Usual.{length};
 ghost use Rattle.copying.specs.Pasted.{pasted};
 ghost use Rattle.message_places.specs.Owed.{owed_in};
 ghost use Rattle.replay_reply_owed.specs.Owed.{confirmation_text, confirmations_text, owed_text};

@@ -1,5 +1,6 @@
 -- Octets as text: two digits an octet, in lower case.
-use Rattle.laws.specs.Usual.{cond, List, [], ◌∷◌, ◌++◌, ℕ, ◌+◌, ◌/◌, ◌%◌, ltb}
+use Rattle.std.specs.Prelude.{◌∷◌, ◌++◌, ◌+◌, ◌/◌, ◌%◌}
+use Rattle.laws.specs.Usual.{cond, List, [], ℕ, ltb}
 
 -- "0" to "9", then "a" to "f"
 abbrev pub digit_of : ℕ → ℕ

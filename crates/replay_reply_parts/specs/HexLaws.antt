@@ -1,5 +1,6 @@
 -- Laws of octets in hexadecimal. Assumes nothing.
-use Rattle.laws.specs.Usual.{◌≡◌, refl, ap, List, [], ◌∷◌, ◌++◌, ℕ, ◌*◌, arith, length}
+use Rattle.std.specs.Prelude.{◌≡◌, ◌∷◌, ◌++◌, ◌*◌}
+use Rattle.laws.specs.Usual.{refl, ap, List, [], ℕ, arith, length}
 use Rattle.replay_reply_parts.specs.Hex.{octet_text, hex_of}
 
 -- two digits an octet

@@ -1,5 +1,6 @@
 -- Words put together to a line.
-use Rattle.laws.specs.Usual.{List, [], ◌∷◌, ◌++◌, ℕ}
+use Rattle.std.specs.Prelude.{◌∷◌, ◌++◌}
+use Rattle.laws.specs.Usual.{List, [], ℕ}
 use Rattle.text.specs.Lines.{space, line_feed}
 
 -- a line: its words, then the line feed

@@ -1,5 +1,6 @@
 -- Texts that are written one behind the other. Assumes nothing.
-use Rattle.laws.specs.Usual.{◌≡◌, ap₂, ◌∙◌, List, ◌++◌, ℕ, ◌+◌, ◌≤◌, arith, length}
+use Rattle.std.specs.Prelude.{◌≡◌, ◌++◌, ◌+◌, ◌≤◌}
+use Rattle.laws.specs.Usual.{ap₂, ◌∙◌, List, ℕ, arith, length}
 use Rattle.std.proofs.Common.{zero-add, length-append}
 use Rattle.copying.specs.Laws.{paste_append}
 use Rattle.copying.specs.Pasted.{pasted}

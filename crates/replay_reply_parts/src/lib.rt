@@ -1,6 +1,9 @@
 // The parts that the lines of `replay` are put together from. A part that has a place `at` in the output is written from there on, and the
 // answer is the octet behind it.
-ghost use Rattle.laws.specs.Usual.{◌≡◌, [], ◌∷◌, ◌+◌, ◌≤◌, length};
+#![tactic(auto)]
+
+ghost use Rattle.std.specs.Prelude.{◌≡◌, ◌∷◌, ◌+◌, ◌≤◌};
+ghost use Rattle.laws.specs.Usual.{[], length};
 ghost use Rattle.copying.specs.Pasted.{pasted};
 ghost use Rattle.text.specs.Decimal.{decimal_of};
 ghost use Rattle.replay_reply_parts.specs.Lines.{ended};

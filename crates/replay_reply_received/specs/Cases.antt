@@ -1,5 +1,6 @@
 -- A message that is handed over, worked out.
-use Rattle.laws.specs.Usual.{◌≡◌, refl, List, [], ◌∷◌, ℕ}
+use Rattle.std.specs.Prelude.{◌≡◌, ◌∷◌}
+use Rattle.laws.specs.Usual.{refl, List, [], ℕ}
 use Rattle.message.specs.declared.Delivery.{Delivery}
 use Rattle.message.specs.declared.Received.TheVariants.{Message}
 use Rattle.text.specs.Decimal.{decimal_at}

@@ -1,15 +1,16 @@
 -- The line that `replay` prints for what a station with messages answers to `hear`: as before, or the message that is handed over. It ends in a
 -- line feed; numbers are in decimal with no leading zeros.
-use Rattle.laws.specs.Usual.{cond, List, [], ◌∷◌, ◌++◌, ℕ, ◌-◌, length, drop, eqb}
+use Rattle.std.specs.Prelude.{◌∷◌, ◌++◌, ◌-◌}
+use Rattle.laws.specs.Usual.{cond, List, [], ℕ, length, drop, eqb}
 use Rattle.message.specs.declared.Message.{Message}
 use Rattle.message.specs.declared.Received.{Received}
-use Rattle.message.specs.declared.Received.TheVariants as received
 use Rattle.message_answers.specs.declared.Reception.{Reception}
 use Rattle.replay_replies.specs.Replies.{heard_text, answer_text}
 use Rattle.replay_reply_numbers.specs.Numbers.{numbers_text}
 use Rattle.replay_reply_parts.specs.Hex.{hex_of}
 use Rattle.replay_reply_parts.specs.Lines.{ended}
 use Rattle.text.specs.Lines.{space}
+use Rattle.message.specs.declared.Received.TheVariants as received
 
 -- "message"
 abbrev pub message_word : List ℕ

@@ -1,5 +1,6 @@
 -- How long the data of a message can be as text. Assumes nothing.
-use Rattle.laws.specs.Usual.{Bool, true, false, cond, List, [], ◌∷◌, ℕ, ◌+◌, ◌*◌, ◌≤◌, arith, length, eqb}
+use Rattle.std.specs.Prelude.{◌∷◌, ◌+◌, ◌*◌, ◌≤◌}
+use Rattle.laws.specs.Usual.{Bool, true, false, cond, List, [], ℕ, arith, length, eqb}
 use Rattle.replay_reply_parts.specs.Hex.{hex_of}
 use Rattle.replay_reply_parts.specs.HexLaws.{hex_length}
 use Rattle.text.specs.Lines.{space}

@@ -1,5 +1,7 @@
 // The line that `replay` prints for what a station with messages answers to `hear`, by the answer's numbers.
-ghost use Rattle.laws.specs.Usual.{◌≡◌, ◌+◌, ◌*◌, ◌≤◌, length};
+#![tactic(auto)]
+ghost use Rattle.std.specs.Prelude.{◌≡◌, ◌+◌, ◌*◌, ◌≤◌};
+ghost use Rattle.laws.specs.Usual.{length};
 ghost use Rattle.copying.specs.Pasted.{pasted};
 ghost use Rattle.replay_reply_received.specs.Received.{last_of, data_text, message_text, reception_text};
 

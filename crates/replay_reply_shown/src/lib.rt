@@ -1,6 +1,8 @@
 // The lines that `replay` prints where it only looks: the panel's text, and octets of the common memory. Each is written in front of a lent
 // output, and each function answers the line's length.
-ghost use Rattle.laws.specs.Usual.{◌≡◌, ◌+◌, ◌*◌, ◌≤◌, length};
+#![tactic(auto)]
+ghost use Rattle.std.specs.Prelude.{◌≡◌, ◌+◌, ◌*◌, ◌≤◌};
+ghost use Rattle.laws.specs.Usual.{length};
 ghost use Rattle.copying.specs.Pasted.{pasted};
 ghost use Rattle.replay_reply_shown.specs.Shown.{panel_text, octets_text};
 

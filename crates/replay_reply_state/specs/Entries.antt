@@ -1,5 +1,6 @@
 -- A law for the loop over the entries. Assumes nothing.
-use Rattle.laws.specs.Usual.{◌≡◌, sym, ap, ◌∙◌, List, [], ◌∷◌, ◌++◌, ℕ, suc, ◌+◌, arith, length}
+use Rattle.std.specs.Prelude.{◌≡◌, ◌∷◌, ◌++◌, ◌+◌}
+use Rattle.laws.specs.Usual.{sym, ap, ◌∙◌, List, [], ℕ, suc, arith, length}
 use Rattle.std.proofs.Common.{append_assoc, append-nil}
 use Rattle.members.specs.declared.Entry.{Entry}
 use Rattle.replay_reply_state.specs.State.{entry_text, entries_from}

@@ -1,5 +1,6 @@
 -- How long the parts of a state's line can be. Assumes nothing.
-use Rattle.laws.specs.Usual.{Bool, true, false, cond, List, [], ◌∷◌, ◌++◌, ℕ, suc, ◌*◌, ◌≤◌, arith, length}
+use Rattle.std.specs.Prelude.{◌∷◌, ◌++◌, ◌*◌, ◌≤◌}
+use Rattle.laws.specs.Usual.{Bool, true, false, cond, List, [], ℕ, suc, arith, length}
 use Rattle.std.proofs.Common.{length-append}
 use Rattle.members.specs.declared.Entry.{Entry}
 use Rattle.station.specs.declared.Phase.{Phase}

@@ -1,5 +1,6 @@
 -- The line that shows a station's state. Numbers are in decimal with no leading zeros.
-use Rattle.laws.specs.Usual.{cond, List, [], ◌∷◌, ◌++◌, ℕ, suc}
+use Rattle.std.specs.Prelude.{◌∷◌, ◌++◌}
+use Rattle.laws.specs.Usual.{cond, List, [], ℕ, suc}
 use Rattle.replay_reply_parts.specs.Lines.{ended}
 use Rattle.members.specs.declared.Entry.{Entry}
 use Rattle.station.specs.declared.Phase.{Phase}

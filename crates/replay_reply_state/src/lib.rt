@@ -1,5 +1,7 @@
 // The line that shows a station's state. Where more follows a part of it, the part's contract bounds the place behind it.
-ghost use Rattle.laws.specs.Usual.{◌≡◌, ◌+◌, ◌≤◌, length};
+#![tactic(auto)]
+ghost use Rattle.std.specs.Prelude.{◌≡◌, ◌+◌, ◌≤◌};
+ghost use Rattle.laws.specs.Usual.{length};
 ghost use Rattle.copying.specs.Pasted.{pasted};
 ghost use Rattle.replay_reply_state.specs.State.{phase_word, view_shown, head_text, pair_text, listed_text, entry_text, entries_from, state_text};
 

@@ -1,13 +1,14 @@
 -- The lines of one word, and the line for a refusal. Each ends in a line feed; numbers are in decimal with no leading zeros.
-use Rattle.laws.specs.Usual.{List, ◌∷◌, ◌++◌, ℕ}
+use Rattle.std.specs.Prelude.{◌∷◌, ◌++◌}
+use Rattle.laws.specs.Usual.{List, ℕ}
 use Rattle.frame_refusals.specs.Refusals.{number_of}
 use Rattle.replay_reply_parts.specs.Lines.{ended}
 use Rattle.frame.specs.declared.Refusal.{Refusal}
 use Rattle.station.specs.declared.Ticked.{Ticked}
-use Rattle.station.specs.declared.Ticked.TheVariants as ticked
 use Rattle.text.specs.Decimal.{decimal_of}
 use Rattle.text.specs.Lines.{space}
 use Rattle.replay_reply_words.specs.Words.{done_word, off_word, bad_word, refused_word}
+use Rattle.station.specs.declared.Ticked.TheVariants as ticked
 
 -- `done`
 abbrev pub done_text : List ℕ

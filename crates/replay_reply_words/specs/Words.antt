@@ -1,5 +1,6 @@
 -- The words of the answers, in ASCII.
-use Rattle.laws.specs.Usual.{List, [], ◌∷◌, ℕ}
+use Rattle.std.specs.Prelude.{◌∷◌}
+use Rattle.laws.specs.Usual.{List, [], ℕ}
 
 -- "done"
 abbrev pub done_word : List ℕ

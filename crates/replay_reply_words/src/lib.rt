@@ -1,6 +1,8 @@
 // The lines of one word that `replay` answers, and the line for a refusal, written in front of a lent output. Each function answers the line's
 // length.
-ghost use Rattle.laws.specs.Usual.{◌≡◌, ◌≤◌, length};
+#![tactic(auto)]
+ghost use Rattle.std.specs.Prelude.{◌≡◌, ◌≤◌};
+ghost use Rattle.laws.specs.Usual.{length};
 ghost use Rattle.copying.specs.Pasted.{pasted};
 ghost use Rattle.replay_reply_words.specs.Answers.{done_text, bad_text, refused_text, ticked_text};
 

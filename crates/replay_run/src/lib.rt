@@ -1,26 +1,30 @@
 // Drives one station from text: one command a line on standard input, one answer a line on standard output. What a line means, what it does
 // and what is answered is decided by the library replay_lines; here the input is only handed to it, part by part.
-ghost use Rattle.laws.specs.Usual.{◌≡◌, List, ℕ, ◌<◌, length, take};
+#![tactic(auto)]
+
+ghost use Rattle.std.specs.Prelude.{◌≡◌, ◌<◌};
+ghost use Rattle.laws.specs.Usual.{List, ℕ, length, take};
 ghost use Rattle.text_feeding.specs.Feeding.{between, Onward, Taken, Arrived};
 ghost use Rattle.replay_input.specs.Gathering.{fresh};
 ghost use Rattle.replay_end.specs.End.{answer_to_rest};
 ghost use Rattle.replay_lines.specs.Replay.{held, after, Answering, start};
 ghost use Rattle.station.specs.Rules.State.{never};
 
-use libc::STDOUT_FILENO;
 use replay_input::Line;
 use replay_lines::Going;
 use station::Station;
+use text_feeding::Streams;
 
 // Hands an answer to standard output. No contract can say what is written; that it is the answer is asked of the caller.
-fn write_answer(going: Going, part: &[u8], to: usize, text: &[u8]) -> bool
+fn write_answer(streams: &mut Streams, going: Going, part: &[u8], to: usize, text: &[u8]) -> bool
     requires { Answering going.station going.line (between going.at to part.now) text.now }
 {
-    io::write_all(STDOUT_FILENO, text)
+    streams.write(text)
 }
 
 // Takes the part on by one step of `take_next`, and writes the answer.
 fn replay_next(
+    streams: &mut Streams,
     going: Going,
     part: &[u8],
     stored: &mut [u8; 34823],
@@ -49,7 +53,7 @@ fn replay_next(
     let to = next.at;
     let length = next.length;
     if next.ended {
-        let on = write_answer(going, part, to, &answer[0..length]);
+        let on = write_answer(streams, going, part, to, &answer[0..length]);
         return Going {
             station,
             line,
@@ -67,6 +71,7 @@ fn replay_next(
 
 // Takes a part to its end, or up to the first line whose answer cannot be written.
 fn replay_part(
+    streams: &mut Streams,
     station: Station,
     line: Line,
     part: &[u8],
@@ -86,13 +91,14 @@ fn replay_part(
         on: true,
     };
     while going.on && going.at < part.len() {
-        going = replay_next(going, part, stored, memory, assembly, turn, frame);
+        going = replay_next(streams, going, part, stored, memory, assembly, turn, frame);
     }
     going
 }
 
 // Reads once, and answers each line that ends in what came.
 fn replay_some(
+    streams: &mut Streams,
     station: Station,
     line: Line,
     part: &mut [u8],
@@ -105,8 +111,9 @@ fn replay_some(
     ensures frame_after { held result.station result.line stored.new memory.new assembly.new turn.new frame.new ≡ after (held station line stored.old memory.old assembly.old turn.old frame.old) (take result.at part.new) }
     ensures arrived { Arrived part.new result.at result.on }
 {
-    let read = text_feeding::read_some(part);
+    let read = streams.read_some(part);
     let mut going = replay_part(
+        streams,
         station,
         line,
         &part[0..read],
@@ -122,6 +129,7 @@ fn replay_some(
 
 // A proved loop has to end, and nothing says that the input does. So the loop counts its turns down, from a number that no run uses up.
 fn replay_all(
+    streams: &mut Streams,
     part: &mut [u8],
     stored: &mut [u8; 34823],
     memory: &mut [u8; area::MEMORY_OCTETS],
@@ -141,23 +149,26 @@ fn replay_all(
     while going.on && 0 < turns {
         let station = going.station;
         let line = going.line;
-        going = replay_some(station, line, part, stored, memory, assembly, turn, frame);
+        going = replay_some(
+            streams, station, line, part, stored, memory, assembly, turn, frame,
+        );
         turns -= 1;
     }
     going
 }
 
 // What the whole input leaves, with a station that was never started and buffers of zeros.
-fn replay_input() -> Going
+fn replay_input(streams: &mut Streams) -> Going
     ensures { (input : List ℕ) × ((result.station ≡ (after start input).kept.station) × (result.line ≡ (after start input).line)) }
 {
-    let mut part = io::large_buffer();
+    let mut part = [0u8; 65536];
     let mut stored = [0u8; 34823];
     let mut memory = [0u8; area::MEMORY_OCTETS];
     let mut assembly = [0u8; area::MEMORY_OCTETS];
     let mut turn = [0u8; area::MEMORY_OCTETS];
     let mut frame = [0u8; frame::OUTPUT_OCTETS];
     replay_all(
+        streams,
         &mut part,
         &mut stored,
         &mut memory,
@@ -168,16 +179,16 @@ fn replay_input() -> Going
 }
 
 // The same for a last line without its line feed.
-fn write_rest(line: Line, text: &[u8])
+fn write_rest(streams: &mut Streams, line: Line, text: &[u8])
     requires { text.now ≡ answer_to_rest line }
 {
-    io::write_all(STDOUT_FILENO, text);
+    streams.write(text);
 }
 
-pub fn run() {
-    let going = replay_input();
+pub fn run(streams: &mut Streams) {
+    let going = replay_input(streams);
     let rest = going.line;
     let mut text = [0u8; 40];
     let end = replay_end::put_rest(rest, &mut text);
-    write_rest(rest, &text[0..end]);
+    write_rest(streams, rest, &text[0..end]);
 }

@@ -1,5 +1,7 @@
 // The lines of the commands that only look at a station that `replay` keeps, each written in front of a lent answer. Each function answers the line's length.
-ghost use Rattle.laws.specs.Usual.{◌≡◌, length};
+#![tactic(auto)]
+ghost use Rattle.std.specs.Prelude.{◌≡◌};
+ghost use Rattle.laws.specs.Usual.{length};
 ghost use Rattle.copying.specs.Pasted.{pasted};
 ghost use Rattle.message_rules.specs.Rules.Calls.{mail_of};
 ghost use Rattle.replay_reply_mail.specs.Mail.{mail_text};

@@ -1,5 +1,6 @@
 -- A station with messages in its ten arrays: the two parts that they hold. Assumes nothing.
-use Rattle.laws.specs.Usual.{◌≡◌, ap₂, ◌∙◌, List, ℕ}
+use Rattle.std.specs.Prelude.{◌≡◌}
+use Rattle.laws.specs.Usual.{ap₂, ◌∙◌, List, ℕ}
 use Rattle.boundary_core.specs.Crossing.{core_of, station_of, station_in, station_kept}
 use Rattle.boundary_core.specs.declared.Core.{Core}
 use Rattle.boundary_places.specs.Places.{core_in}

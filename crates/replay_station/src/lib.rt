@@ -1,5 +1,7 @@
 // A station with messages as `replay` keeps it, its ten arrays in one value, and what a call on it leaves and answers.
-ghost use Rattle.laws.specs.Usual.{◌≡◌, length};
+#![tactic(auto)]
+ghost use Rattle.std.specs.Prelude.{◌≡◌};
+ghost use Rattle.laws.specs.Usual.{length};
 ghost use Rattle.copying.specs.Pasted.{pasted};
 ghost use Rattle.replay_replies.specs.Replies.{answer_text};
 
@@ -8,7 +10,7 @@ use boundary_lists::AREA_NUMBERS;
 use boundary_places::NUMBERS;
 use message_places::{OUTGOING_NUMBERS, OWED_NUMBERS};
 
-#[derive(Drop)]
+#[derive(Clone, Copy)]
 pub struct Arrays {
     pub core: [u32; NUMBERS],
     pub listed: [bool; 256],
@@ -23,14 +25,14 @@ pub struct Arrays {
 }
 
 // The station after a call, and the answer in numbers.
-#[derive(Drop)]
+#[derive(Clone, Copy)]
 pub struct Done {
     pub station: Arrays,
     pub answer: Answer,
 }
 
 // The station after a command, and the length of the line that is answered.
-#[derive(Drop)]
+#[derive(Clone, Copy)]
 pub struct Reply {
     pub station: Arrays,
     pub length: usize,

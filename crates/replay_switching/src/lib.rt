@@ -1,5 +1,6 @@
 // `start` and `stop` of a station that `replay` keeps: its arrays are lent, and put together again.
-ghost use Rattle.laws.specs.Usual.{◌≡◌};
+#![tactic(auto)]
+ghost use Rattle.std.specs.Prelude.{◌≡◌};
 ghost use Rattle.boundary_answers.specs.Numbers.{switched_answer};
 ghost use Rattle.message_rules.specs.Rules.Calls.{start_of, stop_of, never_both};
 ghost use Rattle.replay_station.specs.Arrays.{both_at};

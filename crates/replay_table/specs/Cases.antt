@@ -1,5 +1,6 @@
 -- Lines and what they mean. Assumes nothing.
-use Rattle.laws.specs.Usual.{◌≡◌, refl, [], ◌∷◌}
+use Rattle.std.specs.Prelude.{◌≡◌, ◌∷◌}
+use Rattle.laws.specs.Usual.{refl, []}
 use Rattle.replay_table.specs.Commands.{command_of}
 use Rattle.replay_table.specs.declared.Command.TheVariants.{Start, Tick, Post, Mail, Owed, Hear, Ask, Poke, Peek, Bad}
 

@@ -1,5 +1,6 @@
 -- A choice between commands by a test. Assumes nothing.
-use Rattle.laws.specs.Usual.{◌≡◌, sym, ap, ◌∙◌, Bool, true, false, cond}
+use Rattle.std.specs.Prelude.{◌≡◌}
+use Rattle.laws.specs.Usual.{sym, ap, ◌∙◌, Bool, true, false, cond}
 use Rattle.replay_table.specs.declared.Command.{Command}
 
 module _ (t : Bool) (a b : Command) where

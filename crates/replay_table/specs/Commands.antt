@@ -1,5 +1,6 @@
 -- What a line means: the table of commands. Words in quotes are the table's.
-use Rattle.laws.specs.Usual.{cond, ◌&&◌, List, [], ◌∷◌, ℕ, ◌+◌, length, get_or, take, drop, leb, ltb}
+use Rattle.std.specs.Prelude.{◌&&◌, ◌∷◌, ◌+◌}
+use Rattle.laws.specs.Usual.{cond, List, [], ℕ, length, get_or, take, drop, leb, ltb}
 use Rattle.replay_input.specs.Gathering.{longest, size_in}
 use Rattle.replay_input.specs.declared.Line.{Line}
 use Rattle.text.specs.Lines.{space}

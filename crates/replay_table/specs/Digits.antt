@@ -1,5 +1,6 @@
 -- Hexadecimal digits of which some are kept, and those that are a word of a line. Assumes nothing.
-use Rattle.laws.specs.Usual.{◌≡◌, refl, sym, ap, ap₂, ◌∙◌, Bool, true, false, cond, ◌&&◌, List, [], ◌∷◌, ℕ, suc, ◌+◌, ◌*◌, ◌/◌, ◌<◌, ◌≤◌, arith, length, get_or, take, drop, eqb, leb}
+use Rattle.std.specs.Prelude.{◌≡◌, ◌&&◌, ◌∷◌, ◌+◌, ◌*◌, ◌/◌, ◌<◌, ◌≤◌}
+use Rattle.laws.specs.Usual.{refl, sym, ap, ap₂, ◌∙◌, Bool, true, false, cond, List, [], ℕ, suc, arith, length, get_or, take, drop, eqb, leb}
 use native.Mathlib.Decide.{dec_le, dec_lt}
 use lib.ListN.{length-drop, drop_of_length-le}
 use lib.Seq.{take_all, take-nil, take-take}

@@ -1,5 +1,6 @@
 -- What is kept of a `hear` line, whatever its length, spells the first of its octets, and what is kept of a `post` line the first of its data. Assumes nothing.
-use Rattle.laws.specs.Usual.{◌≡◌, sym, ap, ◌∙◌, List, [], ℕ, ◌+◌, ◌*◌, ◌<◌, ◌≤◌, arith, length, get_or, take, drop}
+use Rattle.std.specs.Prelude.{◌≡◌, ◌+◌, ◌*◌, ◌<◌, ◌≤◌}
+use Rattle.laws.specs.Usual.{sym, ap, ◌∙◌, List, [], ℕ, arith, length, get_or, take, drop}
 use native.Mathlib.Decide.{dec_le, dec_lt}
 use lib.ListN.{length-take, length-drop, drop_of_length-le}
 use lib.Seq.{take-take, take-add, drop_at, length-take-le}

@@ -1,5 +1,6 @@
 -- A line that came octet by octet, into a buffer of 34,823 octets, means what the whole line means, whatever its length. Assumes nothing.
-use Rattle.laws.specs.Usual.{◌≡◌, refl, sym, ap, ap₂, ◌∙◌, Bool, true, false, cond, not, ◌&&◌, List, [], ◌∷◌, ◌++◌, ℕ, suc, ◌+◌, ◌-◌, ◌/◌, ◌%◌, ◌<◌, ◌≤◌, arith, length, take, drop, set, eqb, leb, ltb}
+use Rattle.std.specs.Prelude.{◌≡◌, ◌&&◌, ◌∷◌, ◌++◌, ◌+◌, ◌-◌, ◌/◌, ◌%◌, ◌<◌, ◌≤◌}
+use Rattle.laws.specs.Usual.{refl, sym, ap, ap₂, ◌∙◌, Bool, true, false, cond, not, List, [], ℕ, suc, arith, length, take, drop, set, eqb, leb, ltb}
 use mathlib.Core.Bool.{not-not}
 use mathlib.Core.List.{append-nil, append_assoc}
 use Prim.Native.Nat.{zero}

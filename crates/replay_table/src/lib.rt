@@ -1,4 +1,5 @@
 // The commands of the program `replay`, each with what its line gives it.
+#![tactic(auto)]
 ghost use mathlib.Core.Path.{◌≡◌};
 ghost use Rattle.replay_table.specs.Commands.{at_most};
 
@@ -6,21 +7,21 @@ use message::{Allowance, Message};
 use station::Settings;
 
 // What a start takes.
-#[derive(Drop)]
+#[derive(Clone, Copy)]
 pub struct Starting {
     pub own: Settings,
     pub allowance: Allowance,
 }
 
 // Where the hexadecimal digits of a command start in its line, and how many of the octets that they spell are kept.
-#[derive(Drop)]
+#[derive(Clone, Copy)]
 pub struct Octets {
     pub digits: usize,
     pub count: usize,
 }
 
 // A message that is handed in, where the hexadecimal digits of its data start in the line, and how many of the octets that they spell are kept. Without data both are 0.
-#[derive(Drop)]
+#[derive(Clone, Copy)]
 pub struct Post {
     pub message: Message,
     pub digits: usize,
@@ -28,21 +29,21 @@ pub struct Post {
 }
 
 // The place in the common memory, where the hexadecimal digits start in the line, and how many octets they spell.
-#[derive(Drop)]
+#[derive(Clone, Copy)]
 pub struct Poke {
     pub at: usize,
     pub digits: usize,
     pub count: usize,
 }
 
-#[derive(Drop)]
+#[derive(Clone, Copy)]
 pub struct Peek {
     pub at: usize,
     pub length: usize,
 }
 
 // `Ask` has the octets of output that are lent.
-#[derive(Drop)]
+#[derive(Clone, Copy)]
 pub enum Command {
     Start(Starting),
     Stop,

@@ -1,5 +1,6 @@
 // Ticks of a station that `replay` keeps: its arrays are lent, and put together again.
-ghost use Rattle.laws.specs.Usual.{◌≡◌};
+#![tactic(auto)]
+ghost use Rattle.std.specs.Prelude.{◌≡◌};
 ghost use Rattle.boundary_answers.specs.Numbers.{ticked_answer};
 ghost use Rattle.message_quiet.specs.Many.{ticks_of};
 ghost use Rattle.replay_station.specs.Arrays.{both_at};

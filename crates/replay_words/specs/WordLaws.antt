@@ -1,5 +1,6 @@
 -- Laws of words, for code that goes through a line from place to place. Assumes nothing.
-use Rattle.laws.specs.Usual.{◌≡◌, ap, ◌∙◌, true, false, List, ℕ, suc, ◌+◌, ◌<◌, ◌≤◌, length, get_or, drop, eqb}
+use Rattle.std.specs.Prelude.{◌≡◌, ◌+◌, ◌<◌, ◌≤◌}
+use Rattle.laws.specs.Usual.{ap, ◌∙◌, true, false, List, ℕ, suc, length, get_or, drop, eqb}
 use Rattle.std.proofs.Common.{add-one, ne_eqb, drop_of_length-le, drop-cons}
 use Rattle.text.specs.Lines.{space}
 use Rattle.text_reading.specs.PartLaws.{place_of, part_at}

@@ -1,5 +1,6 @@
 -- The words of a line, and words as numbers. Words in quotes are those of the table of commands.
-use Rattle.laws.specs.Usual.{Bool, true, false, ◌&&◌, List, [], ◌∷◌, ℕ, get_or, eqb}
+use Rattle.std.specs.Prelude.{◌&&◌, ◌∷◌}
+use Rattle.laws.specs.Usual.{Bool, true, false, List, [], ℕ, get_or, eqb}
 use Rattle.text.specs.Lines.{space}
 use Rattle.text_reading.specs.Parts.{parts_behind, end_of}
 use Rattle.text_reading.specs.Values.{decimal_in, number_or}

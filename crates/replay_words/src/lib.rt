@@ -1,5 +1,7 @@
 // The words of a line, and words as numbers in decimal.
-ghost use Rattle.laws.specs.Usual.{◌≡◌, ◌+◌, drop};
+#![tactic(auto)]
+ghost use Rattle.std.specs.Prelude.{◌≡◌, ◌+◌};
+ghost use Rattle.laws.specs.Usual.{drop};
 ghost use Rattle.text.specs.Lines.{space};
 ghost use Rattle.text_reading.specs.Marks.{before};
 ghost use Rattle.replay_words.specs.Words.{begins, decimal, number_at};
@@ -8,7 +10,7 @@ use text_places::place_from;
 use text_reading::{Value, decimal_in};
 
 // A word of a line as a number, and the place where it ends: its space, or the line's end.
-#[derive(Drop)]
+#[derive(Clone, Copy)]
 pub struct Number {
     pub value: u32,
     pub end: usize,

@@ -1,16 +1,17 @@
 -- Paper 01, "The ring in demand 3": what is a pass and what is a silence, told from the octets that are written and from the watches. Their
 -- counts in a list of events, and what an event does to the views, are those of any ring that tells this much (`Counting` of settling).
-use Rattle.laws.specs.Usual.{Bool, false, cond, List, [], ◌∷◌, ℕ, take}
+use Rattle.std.specs.Prelude.{◌∷◌}
+use Rattle.laws.specs.Usual.{[], Bool, false, cond, List, ℕ, take}
 use Rattle.frame.specs.Codes.{is_token}
 use Rattle.frame_reading.specs.Reading.{read_of}
-use Rattle.frame_reading.specs.declared.Read.TheVariants as read
-use Rattle.settling.specs.Counting as counting
 use Rattle.settling.specs.Counting.{Counting}
 use Rattle.station.specs.Rules.Asking.{ask_of}
 use Rattle.frame_reading.specs.declared.Read.{Read}
 use Rattle.station.specs.declared.Asked.{Asked}
-use Rattle.station.specs.declared.Asked.TheVariants as answers
 use Rattle.ring.specs.Events.{Stations, Event, asked, ticked, stray, after_event, views_of, ends_watch}
+use Rattle.frame_reading.specs.declared.Read.TheVariants as read
+use Rattle.settling.specs.Counting as counting
+use Rattle.station.specs.declared.Asked.TheVariants as answers
 
 -- whom octets give the token to: the destination, where they read as a frame of code 65000, else nobody
 abbrev pub token_to : Read → List ℕ

@@ -1,5 +1,6 @@
 -- Demand 3: its premises, the disturbed ring as the paper takes it, and its conclusion.
-use Rattle.laws.specs.Usual.{◌≡◌, true, List, ℕ, take}
+use Rattle.std.specs.Prelude.{◌≡◌}
+use Rattle.laws.specs.Usual.{true, List, ℕ, take}
 use Rattle.frame.specs.Codes.{is_token}
 use Rattle.members.specs.Members.{entry_of, ring_of}
 use Rattle.frame_reading.specs.Reading.{read_of}

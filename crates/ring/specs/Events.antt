@@ -1,21 +1,22 @@
 -- Paper 01, "The ring in demand 3": what happens in a ring of full stations. Words in quotes are the paper's.
-use Rattle.laws.specs.Usual.{◌≡◌, Bool, true, false, cond, ◌&&◌, List, ℕ, take, eqb}
+use Rattle.std.specs.Prelude.{◌≡◌, ◌&&◌}
+use Rattle.laws.specs.Usual.{Bool, true, false, cond, List, ℕ, take, eqb}
 use Rattle.frame.specs.Codes.{is_cyclic}
 use Rattle.frame.specs.declared.Code.TheVariants.{Request}
 use Rattle.misses.specs.MissHistory.{ThirdRunning}
 use Rattle.frame_reading.specs.Reading.{read_of}
 use Rattle.settling.specs.Ring.{◌∈◌, Agreed}
-use Rattle.station.specs.Rules.Asking as asking
 use Rattle.station.specs.Rules.Calls.{Call, start, hear, after, refused_by, verdict}
-use Rattle.station.specs.Rules.Hearing as hearing
 use Rattle.station.specs.Rules.State.{is_participating, holds}
 use Rattle.station.specs.Rules.Ticking.{tick_of, watch_ends}
 use Rattle.station.specs.Rules.Waits.{counts_as}
-use Rattle.station.specs.declared.Asked.TheVariants as answers
 use Rattle.station.specs.Types.{Fields, Refusal, Frame}
 use Rattle.station.specs.declared.Settings.{Settings}
 use Rattle.station.specs.declared.Station.{Station}
 use Rattle.station.specs.declared.Asked.{Asked}
+use Rattle.station.specs.Rules.Asking as asking
+use Rattle.station.specs.Rules.Hearing as hearing
+use Rattle.station.specs.declared.Asked.TheVariants as answers
 
 -- the stations of a ring, by their numbers
 abbrev pub Stations : Type 0

@@ -2,15 +2,15 @@
 -- station 1 alone hears a request of station 3 with 1 ms. After ten ticks it has given station 3 up and takes itself for the holder, while
 -- station 3 still holds. Each of these events could come but for the time of that request: no holder's watch ends, and nobody is missed three
 -- times running. Assumes nothing.
-use Rattle.laws.specs.Usual.{◌≡◌, refl, sym, ◌∙◌, Bool, true, false, cond, ◌&&◌, List, [], ◌∷◌, ℕ, suc, arith, replicate, eqb}
-use Rattle.std.specs.Prelude.{zero}
+use Rattle.laws.specs.Usual.{refl, sym, ◌∙◌, Bool, true, false, cond, List, [], ℕ, suc, arith, replicate, eqb}
+use Rattle.std.specs.Prelude.{◌≡◌, ◌&&◌, ◌∷◌, zero}
 use Rattle.std.proofs.Common.{append-nil}
 use Rattle.frame.specs.Codes.{is_cyclic}
 use Rattle.frame_reading.specs.Reading.{fields_of, read_of}
 use Rattle.frame_round_trip.specs.Sent.{request_fields}
 use Rattle.frame_writing.specs.Writing.{no_areas, frame_of, header_of, front_of, back_of, fixed_for}
 use Rattle.laws.specs.Tests.{first, second}
-use Rattle.misses.specs.CoverThird.{brought_more, reached_brought}
+use Rattle.misses.proofs.CoverThird.{brought_more, reached_brought}
 use Rattle.misses.specs.MissHistory.{Brought}
 use Rattle.settling.specs.Ring.{◌∈◌}
 use Rattle.settling.specs.Steps.{after_all, EachFinds}
@@ -19,7 +19,7 @@ use Rattle.station.specs.Rules.Waits.{counts_as}
 use Rattle.station.specs.Types.{Fields, Frame}
 use Rattle.ring_worked.specs.Bringing.{token_octets, hears, one_heard, three_heard, numbers, at_1, at_3, each}
 use Rattle.ring.specs.Demand.{Disturbed, RingSettles}
-use Rattle.ring.specs.DemandThree.{left_by_calls}
+use Rattle.ring.proofs.DemandThree.{left_by_calls}
 use Rattle.ring.specs.Events.{Stations, Event, ticked, stray, after_event, AllName, CanCome}
 use Rattle.ring_worked.specs.Worked.{Fits, disturbed, passed_on, others_1, others_3, two_fits}
 use Rattle.ring_worked.specs.WorkedSilence.{AllBrought, all_fine, tick_comes}

@@ -1,14 +1,13 @@
 -- Stations 1, 2 and 3 of the worked rings, each brought up from off by calls alone, and the token frame that they send and hear. Assumes
 -- nothing.
-use Rattle.laws.specs.Usual.{◌≡◌, refl, sym, ap, subst, ◌∙◌, Bool, true, false, cond, ◌&&◌, false≢true, List, [], ◌∷◌, ◌++◌, ℕ, suc, ◌+◌, ◌<◌, arith, length, get_or, take, drop, replicate, ltb}
+use Rattle.laws.specs.Usual.{refl, sym, ap, subst, ◌∙◌, Bool, true, false, cond, false≢true, List, [], ℕ, suc, arith, length, get_or, take, drop, replicate, ltb}
 use mathlib.Core.List.Memᴰ
-use Rattle.std.specs.Prelude.{zero}
+use Rattle.std.specs.Prelude.{◌≡◌, ◌&&◌, ◌∷◌, ◌++◌, ◌+◌, ◌<◌, zero}
 use Rattle.std.proofs.Common.{ltb-true, le-leb}
 use Rattle.block.specs.Blocks.{start_of}
-use Rattle.frame.specs.declared.Refusal.TheVariants as refusals
 use Rattle.frame_reading.specs.Reading.{fields_of}
 use Rattle.frame_round_trip.specs.Sent.{block_fields}
-use Rattle.settling.specs.Next.{ascending_cons}
+use Rattle.settling.proofs.Next.{ascending_cons}
 use Rattle.settling.specs.Ring.{◌∈◌, Stations as Ascending}
 use Rattle.station.specs.Rules.Asking.{ask_of, due_fields, due_in, lent_right, next_block, next_station, refused, turn_after, written}
 use Rattle.station.specs.Rules.Calls.{Call, start, tick, hear, ask, after, unrefused, verdict}
@@ -21,6 +20,7 @@ use Rattle.station.specs.declared.Phase.TheVariants.{Participating}
 use Rattle.station.specs.declared.Station.{Station}
 use Rattle.frame_writing.specs.Writing.{no_areas, frame_of, output_of, header_of, front_of, back_of, fixed_for}
 use Rattle.ring.specs.Demand.{LastCall, sent, heard}
+use Rattle.frame.specs.declared.Refusal.TheVariants as refusals
 
 -- all stations have no areas, so that a turn is one block, and a watch time of 2 ms, so that a silence comes in twenty ticks
 abbrev pub watch : Milliseconds

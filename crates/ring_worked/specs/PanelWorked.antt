@@ -1,12 +1,13 @@
 -- The panel worked out for single lists of calls (paper 01, "The panel": "63 shows `6.3`"). Assumes nothing.
-use Rattle.laws.specs.Usual.{◌≡◌, refl, ◌∙◌, List, [], ◌∷◌, ◌++◌, ℕ, replicate}
+use Rattle.std.specs.Prelude.{◌≡◌, ◌∷◌, ◌++◌}
+use Rattle.laws.specs.Usual.{refl, ◌∙◌, List, [], ℕ, replicate}
 use Rattle.members.specs.Members.{no_members}
 use Rattle.panel.specs.declared.Figure.TheVariants.{Nothing, Gap}
 use Rattle.frame_reading.specs.Reading.{fields_of}
 use Rattle.frame_round_trip.specs.Sent.{block_fields}
 use Rattle.station.specs.Rules.Calls.{Call, start, stop, tick, hear, ask}
 use Rattle.station.specs.Panel.History.{steps_on, takings, last_gap, state_after, figure_said}
-use Rattle.station.specs.Panel.PanelIsGap.{panel_is_gap}
+use Rattle.station.proofs.Panel.PanelIsGap.{panel_is_gap}
 use Rattle.station.specs.Rules.Showing.{figure_shown}
 use Rattle.station.specs.Rules.State.{begun, never}
 use Rattle.station.specs.declared.Settings.{Settings}

@@ -1,5 +1,6 @@
 -- A ring of three stations that meets the premises of demand 3, with two holders, and one pass that settles it. Assumes nothing.
-use Rattle.laws.specs.Usual.{◌≡◌, refl, sym, ◌∙◌, true, cond, List, [], ◌∷◌, ℕ, arith, replicate, eqb}
+use Rattle.std.specs.Prelude.{◌≡◌, ◌∷◌}
+use Rattle.laws.specs.Usual.{refl, sym, ◌∙◌, true, cond, List, [], ℕ, arith, replicate, eqb}
 use Rattle.std.proofs.Common.{inr}
 use Rattle.members.specs.Members.{entry_of, ring_of}
 use Rattle.frame_reading.specs.Reading.{fields_of, read_of}
@@ -14,7 +15,7 @@ use Rattle.frame_writing.specs.Writing.{header_of, front_of, back_of, fixed_for}
 use Rattle.ring_worked.specs.Bringing.{large, token_octets, token_fields, hears, asks, one, two, three, one_heard, two_last, three_heard, numbers, ascending, at_1, at_3, each, passed}
 use Rattle.ring.specs.Counts.{passes, silences, given}
 use Rattle.ring.specs.Demand.{LastCall, Disturbed, RingSettles}
-use Rattle.ring.specs.DemandThree.{demand_three}
+use Rattle.ring.proofs.DemandThree.{demand_three}
 use Rattle.ring.specs.Events.{Stations, Event, asked, after_event, AllName, CanCome}
 
 -- a station's entry of a number has 2 ms

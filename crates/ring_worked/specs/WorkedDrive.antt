@@ -1,7 +1,8 @@
 -- The case that paper 02, E1, tells of: "A hirer put a slow drive with a 30 ms watch time among stations at 20 ms, and the others took the token
 -- from it in mid-turn." Station 3 is the drive: its turn has two blocks, it sends the first, is silent for 25 ms, and nobody takes the token from
 -- it; then it sends the second with the token. Assumes nothing.
-use Rattle.laws.specs.Usual.{◌≡◌, refl, true, cond, List, [], ℕ, replicate, eqb}
+use Rattle.std.specs.Prelude.{◌≡◌}
+use Rattle.laws.specs.Usual.{refl, true, cond, List, [], ℕ, replicate, eqb}
 use Rattle.frame_reading.specs.Reading.{fields_of}
 use Rattle.frame_round_trip.specs.Sent.{block_fields}
 use Rattle.frame_writing.specs.Writing.{no_areas, frame_of, header_of, front_of, back_of, fixed_for}

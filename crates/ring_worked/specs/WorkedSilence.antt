@@ -1,10 +1,11 @@
 -- Rings of three stations in which nobody holds: a silence comes, and agreement follows. Assumes nothing.
-use Rattle.laws.specs.Usual.{◌≡◌, refl, sym, ◌∙◌, Bool, true, false, cond, not, ◌&&◌, ◌||◌, false≢true, List, [], ◌∷◌, ◌++◌, ℕ, suc, arith, replicate, eqb}
+use Rattle.laws.specs.Usual.{refl, sym, ◌∙◌, Bool, true, false, cond, not, false≢true, List, [], ℕ, suc, arith, replicate, eqb}
 use Rattle.std.proofs.Common.{inr, append-nil}
-use Rattle.std.specs.Prelude.{zero}
+use Rattle.std.specs.Prelude.{◌≡◌, ◌&&◌, ◌||◌, ◌∷◌, ◌++◌, zero}
 use Rattle.std.proofs.lemmas.Bool.{eqb-false}
 use Rattle.laws.specs.Tests.{first, second, implied}
-use Rattle.misses.specs.CoverThird.{brought_more, reached_brought, strikes_in_view, cover_third}
+use Rattle.misses.proofs.CoverThird.{brought_more, reached_brought, cover_third}
+use Rattle.misses.specs.CoverThird.{strikes_in_view}
 use Rattle.misses.specs.MissHistory.{Brought}
 use Rattle.frame_reading.specs.Reading.{fields_of, read_of, is_station}
 use Rattle.settling.specs.First.{FirstAgreement}
@@ -18,11 +19,11 @@ use Rattle.frame_writing.specs.Writing.{header_of, front_of, back_of, fixed_for}
 use Rattle.ring_worked.specs.Bringing.{token_octets, one, two, three, one_reached, two_reached, three_reached, one_heard, three_heard, numbers, ascending, at_1, at_2, at_3, each}
 use Rattle.ring.specs.Counts.{passes, silences}
 use Rattle.ring.specs.Demand.{Disturbed, RingSettles}
-use Rattle.ring.specs.DemandThree.{left_by_calls, demand_three}
+use Rattle.ring.proofs.DemandThree.{left_by_calls, demand_three}
 use Rattle.ring.specs.Events.{Stations, Event, ticked, after_event, AllName, ends_watch, CanCome}
 use Rattle.ring.specs.Member.{InRing}
-use Rattle.ring.specs.Settles.{settles_from}
-use Rattle.ring.specs.Steps.{Ok}
+use Rattle.ring.proofs.Settles.{settles_from}
+use Rattle.ring.proofs.Steps.{Ok}
 use Rattle.ring_worked.specs.Worked.{Fits, disturbed, passed_on, others_1, others_2, others_3, two_fits, asks_one, can_come}
 
 -- a station whose watch ends does not hold, and strikes nobody

@@ -1,1 +1,2 @@
 // Worked rings. There is no code here.
+#![tactic(auto)]

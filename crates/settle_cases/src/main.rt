@@ -1,29 +1,24 @@
 // Runs `settle` on each file that an argument names, and prints the file's name before the output. Of long runs only the last steps are
 // printed.
-use libc::STDOUT_FILENO;
+#![tactic(auto)]
 
-fn run_case(index: usize) {
-    let mut path = io::buffer();
-    let length = os::arg(index, &mut path);
-    io::write_all(STDOUT_FILENO, &path[..length]);
-    io::write_all(STDOUT_FILENO, b"\n");
-    let file = os::open_read(&path[..length]);
-    if file < 0 {
-        os::fail(&path[..length]);
-        return;
-    }
-    let mut input = io::buffer();
-    let count = io::read_full(file, &mut input);
-    libc::close(file);
+use std::io::{self, Write};
+use std::{env, fs};
+
+fn run_case(rt: &HostRuntime, path: &str) -> io::Result<()> {
+    let mut output = rt.stdout();
+    output.write_all(path.as_bytes())?;
+    output.write_all(b"\n")?;
+    let mut file = fs::open(rt, path)?;
+    let mut input = [0u8; 4096];
+    let count = text_feeding::read_full(&mut file, &mut input)?;
     let printing = settle_rest::begin(&input[..count]);
-    settle_write::write_rest(settle_last::shorten(printing, 6));
+    settle_write::write_rest(settle_last::shorten(printing, 6), &mut output)
 }
 
-fn main() {
-    let count = os::arg_count();
-    let mut index = 1;
-    while index < count {
-        run_case(index);
-        index += 1;
+fn main(rt: HostRuntime) -> io::Result<()> {
+    for path in env::args(&rt)?.skip(1) {
+        run_case(&rt, &path)?;
     }
+    Ok(())
 }

@@ -1,5 +1,6 @@
 -- The running counts of `settle`. Words in quotes are paper 02's, E3.
-use Rattle.laws.specs.Usual.{Bool, cond, List, [], ◌∷◌, map, ℕ, suc, ◌+◌, min, eqb}
+use Rattle.std.specs.Prelude.{◌∷◌, ◌+◌}
+use Rattle.laws.specs.Usual.{[], Bool, cond, List, map, ℕ, suc, min, eqb}
 use Rattle.settle_views.specs.Views.{stations_of, views_of}
 use Rattle.settle_views.specs.declared.Ring.{Ring}
 use Rattle.settle_moves.specs.Moves.{each}

@@ -1,6 +1,8 @@
 // How many stations have each view, and how many different views there are: counted once, and adjusted at a pass and at a silence by view
 // and not by station, so that no adjustment waits for the one before it.
-ghost use Rattle.laws.specs.Usual.{◌≡◌, ◌+◌, ◌*◌, ◌≤◌, min, length, get_or};
+#![tactic(auto)]
+ghost use Rattle.std.specs.Prelude.{◌≡◌, ◌+◌, ◌*◌, ◌≤◌};
+ghost use Rattle.laws.specs.Usual.{min, length, get_or};
 ghost use Rattle.settle_moves.specs.Moves.{passed_view};
 ghost use Rattle.settle_counts.specs.Counts.{above_zero, counts_of, sum_of, most, carried_numbers};
 ghost use Rattle.settle_counts.specs.Passing.{is_moved, without_moved};
@@ -8,7 +10,7 @@ ghost use Rattle.settle_counts.specs.Passing.{is_moved, without_moved};
 use settle_views::Ring;
 
 // How many stations have each view, and how many of these numbers are above 0.
-#[derive(Drop)]
+#[derive(Clone, Copy)]
 pub struct Counts {
     pub numbers: [u16; 256],
     pub total: u32,

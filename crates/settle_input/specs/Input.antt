@@ -1,5 +1,6 @@
 -- Reading the input of `settle`. Words in quotes are paper 01's, section "settle".
-use Rattle.laws.specs.Usual.{cond, ◌&&◌, List, [], ◌∷◌, map, ℕ, suc, ◌+◌, length, take, drop, set, replicate, eqb, ltb}
+use Rattle.std.specs.Prelude.{◌&&◌, ◌∷◌, ◌+◌}
+use Rattle.laws.specs.Usual.{cond, List, [], map, ℕ, suc, length, take, drop, set, replicate, eqb, ltb}
 use Rattle.text.specs.Lines.{comma, line_feed}
 use Rattle.text_reading.specs.Marks.{before, up_to, behind, has}
 use Rattle.text_reading.specs.Parts.{in_front}
@@ -9,8 +10,8 @@ use Rattle.settle_views.specs.declared.Ring.{Ring}
 use Rattle.settle_input.specs.declared.Entry.{Entry}
 use Rattle.settle_input.specs.declared.Forms.{Forms}
 use Rattle.settle_input.specs.declared.Reading.{Reading}
-use Rattle.settle_input.specs.declared.Verdict.TheVariants as verdicts
 use Rattle.settle_input.specs.declared.Line.{Line}
+use Rattle.settle_input.specs.declared.Verdict.TheVariants as verdicts
 
 -- "lines .., each ending in a line feed": the input's lines, each with its line feed. What stands behind the last line feed is one
 -- more line, without a line feed.

@@ -1,5 +1,6 @@
 -- The lines of the input, one after the other. Assumes nothing.
-use Rattle.laws.specs.Usual.{◌≡◌, refl, ap, ◌∙◌, Bool, true, false, cond, List, [], ◌∷◌, ℕ, suc, ◌+◌, ◌<◌, ◌≤◌, arith, length, take, drop, set, eqb}
+use Rattle.std.specs.Prelude.{◌≡◌, ◌∷◌, ◌+◌, ◌<◌, ◌≤◌}
+use Rattle.laws.specs.Usual.{refl, ap, ◌∙◌, Bool, true, false, cond, List, [], ℕ, suc, arith, length, take, drop, set, eqb}
 use Rattle.std.proofs.Common.{lt-ltb, le-ltb, length-drop, drop-drop}
 use Rattle.text.specs.Lines.{line_feed}
 use Rattle.text_reading.specs.Marks.{before}

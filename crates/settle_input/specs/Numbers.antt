@@ -1,5 +1,6 @@
 -- The numbers and lines that are read are those that `text` writes, and no others. Assumes nothing.
-use Rattle.laws.specs.Usual.{◌≡◌, refl, sym, ap, ap₂, subst, ◌∙◌, List, [], ◌∷◌, ◌++◌, ℕ, suc, ◌+◌, ◌<◌, ◌≤◌, arith, length}
+use Rattle.std.specs.Prelude.{◌≡◌, ◌∷◌, ◌++◌, ◌+◌, ◌<◌, ◌≤◌}
+use Rattle.laws.specs.Usual.{refl, sym, ap, ap₂, subst, ◌∙◌, List, [], ℕ, suc, arith, length}
 use Rattle.std.proofs.Common.{append_assoc, append-nil, lt-ltb, length-drop}
 use Rattle.text.specs.Decimal.{decimal_of}
 use Rattle.text.specs.Lines.{comma, line_feed, line_of}

@@ -1,6 +1,6 @@
 -- The answer for an input of any size is the answer for its first 2,040 octets, or more of them. Assumes nothing.
-use Rattle.laws.specs.Usual.{◌≡◌, sym, ap, ◌∙◌, List, [], ◌∷◌, ℕ, suc, ◌+◌, ◌-◌, ◌*◌, ◌<◌, ◌≤◌, arith, length, take, drop, set, replicate}
-use Rattle.std.specs.Prelude.{zero}
+use Rattle.laws.specs.Usual.{sym, ap, ◌∙◌, List, [], ℕ, suc, arith, length, take, drop, set, replicate}
+use Rattle.std.specs.Prelude.{◌≡◌, ◌∷◌, ◌+◌, ◌-◌, ◌*◌, ◌<◌, ◌≤◌, zero}
 use Rattle.std.proofs.Common.{zero-add, suc-add, lt-ltb, le-ltb, ne_eqb, take_all, take-take}
 use Rattle.std.proofs.Math.Decide.{dec_le, dec_lt}
 use Rattle.std.proofs.Math.ListN.{length-take, length-drop}

@@ -1,5 +1,6 @@
 -- A line that has an entry is short: at most 8 octets, the last of them its line feed. Assumes nothing.
-use Rattle.laws.specs.Usual.{◌≡◌, refl, ap, Bool, true, false, ◌&&◌, List, ℕ, suc, ◌+◌, ◌<◌, ◌≤◌, arith, length, ltb}
+use Rattle.std.specs.Prelude.{◌≡◌, ◌&&◌, ◌+◌, ◌<◌, ◌≤◌}
+use Rattle.laws.specs.Usual.{refl, ap, Bool, true, false, List, ℕ, suc, arith, length, ltb}
 use Rattle.std.proofs.Math.Decide.{dec_le, ℕ_discrete}
 use Rattle.std.proofs.Common.{ltb-true, length-take, length-drop}
 use Rattle.laws.specs.Tests.{first, second}

@@ -1,15 +1,16 @@
 -- The ring that is read has the stations of the lines, in their order, each with the view of its line; every view is one of them.
 -- Assumes nothing.
-use Rattle.laws.specs.Usual.{◌≡◌, refl, sym, ap, subst, ◌∙◌, Bool, true, false, cond, List, [], ◌∷◌, map, ℕ, suc, ◌<◌, arith, length, set, eqb, ltb}
+use Rattle.std.specs.Prelude.{◌≡◌, ◌∷◌, ◌<◌}
+use Rattle.laws.specs.Usual.{refl, sym, ap, subst, ◌∙◌, Bool, true, false, cond, List, [], map, ℕ, suc, arith, length, set, eqb, ltb}
 use Rattle.std.proofs.Common.{length-set, eqb-true}
 use Rattle.std.proofs.lemmas.Bool.{eqb-false}
 use Rattle.settle_views.specs.Views.{stations_of, views_of, unlisted_in}
 use Rattle.settle_views.specs.declared.Ring.{Ring}
-use Rattle.settle_input.specs.declared.Verdict.TheVariants as verdicts
 use Rattle.settle_input.specs.Input.{lines_of, station_in, view_in, no_ring, forms_from, forms_of, unlisted_of, read_of}
 use Rattle.settle_input.specs.declared.Forms.{Forms}
 use Rattle.settle_input.specs.Filled.{no_views, Filled, filled_forms, forms_stations, unlisted_line}
 use Rattle.settle_input.specs.Lines.{lines_first}
+use Rattle.settle_input.specs.declared.Verdict.TheVariants as verdicts
 
 -- What was read, where a ring was read.
 pub record Given (octets : List ℕ) (ring : Ring) : Type 0 where

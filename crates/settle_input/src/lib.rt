@@ -1,5 +1,7 @@
 // Reading the input of `settle`: the ring, or the number of the first bad line.
-ghost use Rattle.laws.specs.Usual.{◌≡◌, ◌<◌, length};
+#![tactic(auto)]
+ghost use Rattle.std.specs.Prelude.{◌≡◌, ◌<◌};
+ghost use Rattle.laws.specs.Usual.{length};
 ghost use Rattle.settle_input.specs.Input.{number_in, no_entry, entry_of, first_line, no_ring, line_at, forms_of, bad, read_of};
 
 use settle_views::Ring;
@@ -7,34 +9,34 @@ use text_places::place_of;
 use text_reading::{Value, decimal_in};
 
 // What a line says; both are 0 where it has not the form of a line.
-#[derive(Drop)]
+#[derive(Clone, Copy)]
 pub struct Entry {
     pub station: u8,
     pub view: u8,
 }
 
 // The number of the first line of bad form, or 0 if there is none, and then the ring of all lines.
-#[derive(Drop)]
+#[derive(Clone, Copy)]
 pub struct Forms {
     pub bad: u32,
     pub ring: Ring,
 }
 
-#[derive(Drop)]
+#[derive(Clone, Copy)]
 pub enum Verdict {
     Ring,
     Bad(u32),
 }
 
 // The ring that was read, or the first bad line's number beside a ring with no station.
-#[derive(Drop)]
+#[derive(Clone, Copy)]
 pub struct Reading {
     pub verdict: Verdict,
     pub ring: Ring,
 }
 
 // A line, and the octet behind it.
-#[derive(Drop)]
+#[derive(Clone, Copy)]
 struct Line {
     entry: Entry,
     next: usize,

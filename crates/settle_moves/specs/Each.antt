@@ -1,6 +1,6 @@
 -- A list that has what a function gives for each number. Assumes nothing.
-use Rattle.laws.specs.Usual.{◌≡◌, refl, sym, ap, ◌∙◌, List, ℕ, suc, ◌+◌, ◌<◌, arith, length, get_or}
-use Rattle.std.specs.Prelude.{zero}
+use Rattle.laws.specs.Usual.{refl, sym, ap, ◌∙◌, List, ℕ, suc, arith, length, get_or}
+use Rattle.std.specs.Prelude.{◌≡◌, ◌+◌, ◌<◌, zero}
 use Rattle.std.proofs.Common.{ext_get_or}
 use Rattle.settle_moves.specs.Moves.{each}
 
@@ -15,6 +15,7 @@ get_d_each f number (suc count) zero h = let same : number ≡ number + 0 = omeg
 get_d_each f number (suc count) (suc i) h =
     let same : suc number + i ≡ number + suc i = omega arith in
     get_d_each f (suc number) count i (omega arith) ∙ ap f same
+get_d_each f number zero i h = elim h [ ]
 
 module _ (f : ℕ → ℕ) where
   -- the value at a number below the count

@@ -1,6 +1,6 @@
 -- `next` by two searches for the first listed station: above a number, and from the start. Assumes nothing.
-use Rattle.laws.specs.Usual.{◌≡◌, refl, ap, ◌∙◌, Bool, true, false, cond, List, [], ◌∷◌, ℕ, suc, ◌+◌, ◌<◌, arith, length, drop, eqb, ltb}
-use Rattle.std.specs.Prelude.{◌⊎◌, zero}
+use Rattle.laws.specs.Usual.{refl, ap, ◌∙◌, Bool, true, false, cond, List, [], ℕ, suc, arith, length, drop, eqb, ltb}
+use Rattle.std.specs.Prelude.{◌≡◌, ◌∷◌, ◌+◌, ◌<◌, ◌⊎◌, zero}
 use Rattle.std.proofs.Common.{inl, inr, lt-ltb, le-ltb, length-drop}
 use Rattle.settling.specs.Ring.{first_above, next}
 use Rattle.settle_views.specs.Views.{stations_from}

@@ -1,5 +1,6 @@
 -- Laws for loops that go over a ring by the numbers of its stations. Assumes nothing.
-use Rattle.laws.specs.Usual.{◌≡◌, sym, ap, ◌∙◌, List, ◌∷◌, ◌++◌, map, ℕ, suc, ◌+◌, ◌<◌, ◌≤◌, arith, length, get_or, take, drop, set}
+use Rattle.std.specs.Prelude.{◌≡◌, ◌∷◌, ◌++◌, ◌+◌, ◌<◌, ◌≤◌}
+use Rattle.laws.specs.Usual.{sym, ap, ◌∙◌, List, map, ℕ, suc, arith, length, get_or, take, drop, set}
 use Rattle.std.proofs.Common.{append-nil, add-one, eq-eqb, ne_eqb, drop_of_length-le, drop-cons, take-suc, take_all, length-take-le}
 use Rattle.std.proofs.lemmas.List.{length-map, set_at}
 use Rattle.std.proofs.Math.ListN.{get_or-map}

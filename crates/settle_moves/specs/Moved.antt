@@ -1,12 +1,13 @@
 -- What an event does to a ring whose every view is one of its stations: what `move` does. Assumes nothing.
-use Rattle.laws.specs.Usual.{◌≡◌, refl, sym, ap, subst, ◌∙◌, List, ℕ, ◌<◌, length}
+use Rattle.std.specs.Prelude.{◌≡◌, ◌<◌}
+use Rattle.laws.specs.Usual.{refl, sym, ap, subst, ◌∙◌, List, ℕ, length}
 use mathlib.Core.List.Memᴰ
 use Rattle.std.proofs.Common.{ne_eqb}
 use Rattle.std.proofs.Math.ListN.{get_or-map}
 use Rattle.settling.specs.Ring.{◌∈◌, Views, Within, Event, pass, silence, move, Legal}
 use Rattle.settling.specs.Same.{Same}
-use Rattle.settling.specs.Next.{laws_of}
-use Rattle.settling.specs.Moves.{within_stays}
+use Rattle.settling.proofs.Next.{laws_of}
+use Rattle.settling.proofs.Moves.{within_stays}
 use Rattle.settle_views.specs.Views.{stations_of, views_of}
 use Rattle.settle_views.specs.Listed.{stations_kept, ascending}
 use Rattle.settle_views.specs.Proper.{Proper, station_view, view_station, not_zero}

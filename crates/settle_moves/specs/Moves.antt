@@ -1,6 +1,6 @@
 -- What an event does to the ring that `settle` works on. Words in quotes are paper 01's.
-use Rattle.laws.specs.Usual.{cond, List, [], ◌∷◌, map, ℕ, suc, min, eqb}
-use Rattle.std.specs.Prelude.{zero}
+use Rattle.laws.specs.Usual.{cond, List, [], map, ℕ, suc, min, eqb}
+use Rattle.std.specs.Prelude.{◌∷◌, zero}
 use Rattle.settling.specs.Ring.{Event, silence, move}
 use Rattle.settle_views.specs.Views.{ring_with, stations_of}
 use Rattle.settle_views.specs.declared.Ring.{Ring}

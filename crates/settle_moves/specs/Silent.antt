@@ -1,5 +1,6 @@
 -- Where each view goes in a silence, found from the largest to the smallest. Assumes nothing.
-use Rattle.laws.specs.Usual.{◌≡◌, refl, sym, ap, ◌∙◌, cond, List, ℕ, ◌+◌, ◌-◌, ◌<◌, ◌≤◌, arith, length, get_or, drop, set, replicate, ltb}
+use Rattle.std.specs.Prelude.{◌≡◌, ◌+◌, ◌-◌, ◌<◌, ◌≤◌}
+use Rattle.laws.specs.Usual.{refl, sym, ap, ◌∙◌, cond, List, ℕ, arith, length, get_or, drop, set, replicate, ltb}
 use Rattle.std.proofs.Math.Decide.{ℕ_discrete}
 use Rattle.std.proofs.Common.{ne_eqb, length-set, get_or-set_same, get_or-set_other}
 use Rattle.settling.specs.Ring.{next, silence}

@@ -1,5 +1,8 @@
 // What a pass does to the views of a ring, in place.
-ghost use Rattle.laws.specs.Usual.{◌≡◌, map};
+#![tactic(auto)]
+
+ghost use Rattle.std.specs.Prelude.{◌≡◌};
+ghost use Rattle.laws.specs.Usual.{map};
 ghost use Rattle.settle_moves.specs.Moves.{passed_view};
 
 // The view of a listed station after a token frame from one station to the next.

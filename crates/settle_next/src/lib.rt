@@ -1,5 +1,7 @@
 // Next, and what a silence does to the views of a ring, in place.
-ghost use Rattle.laws.specs.Usual.{◌≡◌, cond, ◌≤◌, length, drop, ltb};
+#![tactic(auto)]
+ghost use Rattle.std.specs.Prelude.{◌≡◌, ◌≤◌};
+ghost use Rattle.laws.specs.Usual.{cond, length, drop, ltb};
 ghost use Rattle.settling.specs.Ring.{next, silence};
 ghost use Rattle.settle_views.specs.Views.{ring_with, stations_of};
 ghost use Rattle.settle_moves.specs.Moves.{first_listed, moved, moves_in_silence};

@@ -1,5 +1,6 @@
 -- The output lines of `settle`. Words in quotes are paper 01's, section "settle".
-use Rattle.laws.specs.Usual.{cond, List, [], ◌∷◌, ℕ, length, ltb}
+use Rattle.std.specs.Prelude.{◌∷◌}
+use Rattle.laws.specs.Usual.{cond, List, [], ℕ, length, ltb}
 use Rattle.copying.specs.Pasted.{pasted}
 use Rattle.text.specs.Lines.{line_of}
 use Rattle.settle_run.specs.Run.{letter_of}

@@ -1,5 +1,6 @@
 -- Every line of `settle` fits into `room`, and none is empty. Assumes nothing.
-use Rattle.laws.specs.Usual.{List, [], ◌∷◌, ◌++◌, ℕ, ◌+◌, ◌*◌, ◌≤◌, arith, length}
+use Rattle.std.specs.Prelude.{◌∷◌, ◌++◌, ◌+◌, ◌*◌, ◌≤◌}
+use Rattle.laws.specs.Usual.{List, [], ℕ, arith, length}
 use Rattle.std.proofs.Common.{length-append}
 use Rattle.text.specs.Lines.{line_feed, numbers_of, line_of}
 use Rattle.text.specs.LineLaws.{numbers_length}

@@ -1,5 +1,7 @@
 // The output lines of `settle`, each written in front of a lent buffer of 35 octets or more. A shorter buffer is left as it is.
-ghost use Rattle.laws.specs.Usual.{◌≡◌, ◌+◌, ◌*◌, ◌≤◌, length};
+#![tactic(auto)]
+ghost use Rattle.std.specs.Prelude.{◌≡◌, ◌+◌, ◌*◌, ◌≤◌};
+ghost use Rattle.laws.specs.Usual.{length};
 ghost use Rattle.text.specs.Lines.{line_of};
 ghost use Rattle.settle_run.specs.Run.{letter_of};
 ghost use Rattle.settle_output.specs.Output.{room, written_to, length_in, header_line, step_line, settled_line, bad_line};

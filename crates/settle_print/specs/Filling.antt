@@ -1,6 +1,7 @@
 -- How a buffer fills, line by line: what was put into it and what is still to be printed are together what was to be printed. Assumes
 -- nothing.
-use Rattle.laws.specs.Usual.{◌≡◌, refl, sym, ap, subst, ◌∙◌, Bool, true, false, cond, not, List, ◌++◌, ℕ, suc, ◌+◌, ◌-◌, ◌<◌, ◌≤◌, arith, length, take, leb}
+use Rattle.std.specs.Prelude.{◌≡◌, ◌++◌, ◌+◌, ◌-◌, ◌<◌, ◌≤◌}
+use Rattle.laws.specs.Usual.{refl, sym, ap, subst, ◌∙◌, Bool, true, false, cond, not, List, ℕ, suc, arith, length, take, leb}
 use mathlib.Core.List.{append_assoc}
 use Prim.Native.Nat.{zero}
 use Rattle.std.proofs.Common.{le_refl, le-leb, leb-true, take_at}

@@ -1,7 +1,7 @@
 -- What `settle` prints, part by part, is `output_of` of its input. Assumes nothing.
-use Rattle.laws.specs.Usual.{◌≡◌, refl, sym, ap, ◌∙◌, Bool, true, false, List, [], ◌++◌, ℕ, suc, ◌≤◌, arith, length, take}
+use Rattle.laws.specs.Usual.{refl, sym, ap, ◌∙◌, Bool, true, false, List, [], ℕ, suc, arith, length, take}
 use Rattle.std.proofs.Common.{append_assoc, append-nil}
-use Rattle.std.specs.Prelude.{zero}
+use Rattle.std.specs.Prelude.{◌≡◌, ◌++◌, ◌≤◌, zero}
 use Rattle.copying.specs.Laws.{front_read, length_pasted}
 use Rattle.settle_output.specs.Output.{room}
 use Rattle.settle_rest.specs.Begun.{begun}

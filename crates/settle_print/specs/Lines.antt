@@ -1,9 +1,10 @@
 -- Laws of one line: it stands in front of what is still to be printed, and fits. Assumes nothing.
-use Rattle.laws.specs.Usual.{◌≡◌, refl, sym, ap, ap₂, ◌∙◌, Bool, true, false, false≢true, List, [], ◌++◌, ℕ, suc, ◌-◌, ◌<◌, ◌≤◌, arith, leb}
+use Rattle.std.specs.Prelude.{◌≡◌, ◌++◌, ◌-◌, ◌<◌, ◌≤◌}
+use Rattle.laws.specs.Usual.{refl, sym, ap, ap₂, ◌∙◌, Bool, true, false, false≢true, List, [], ℕ, suc, arith, leb}
 use Rattle.std.proofs.Common.{append_assoc, append-nil, ne_eqb}
 use Prim.Native.Nat.{zero}
 use Rattle.settle_run.specs.Running.{has_ended, next_step, onward, end_from}
-use Rattle.settle_run.specs.Counted.{some_left, end_more, end_over}
+use Rattle.settle_run.proofs.Counted.{some_left, end_more, end_over}
 use Rattle.settle_run.specs.declared.Running.{Running}
 use Rattle.settle_run.specs.declared.Settled.{Settled}
 use Rattle.settle_output.specs.Output.{step_line, settled_line, bad_line}

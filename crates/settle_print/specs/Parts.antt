@@ -1,6 +1,6 @@
 -- The parts in which what is still to be printed goes into a lent buffer.
-use Rattle.laws.specs.Usual.{Bool, cond, not, ◌&&◌, List, [], ℕ, suc, ◌+◌, ◌-◌, length, take, leb}
-use Rattle.std.specs.Prelude.{zero}
+use Rattle.laws.specs.Usual.{Bool, cond, not, List, [], ℕ, suc, length, take, leb}
+use Rattle.std.specs.Prelude.{◌&&◌, ◌+◌, ◌-◌, zero}
 use Rattle.copying.specs.Pasted.{pasted}
 use Rattle.settle_run.specs.Running.{running_in, has_ended, next_step, onward}
 use Rattle.settle_run.specs.declared.Running.{Running}

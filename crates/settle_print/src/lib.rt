@@ -1,5 +1,7 @@
 // What `settle` prints, part by part in a lent buffer: each part is as many whole lines as the buffer takes.
-ghost use Rattle.laws.specs.Usual.{◌≡◌, not, ◌≤◌, length};
+#![tactic(auto)]
+ghost use Rattle.std.specs.Prelude.{◌≡◌, ◌≤◌};
+ghost use Rattle.laws.specs.Usual.{not, length};
 ghost use Rattle.copying.specs.Pasted.{pasted};
 ghost use Rattle.settle_output.specs.Output.{room};
 ghost use Rattle.settle_rest.specs.Rest.{is_over};
@@ -10,14 +12,14 @@ use settle_run::{Running, Settled};
 use settle_views::Ring;
 
 // What is still to be printed behind the octets that were put in front of a buffer, and their number.
-#[derive(Drop)]
+#[derive(Clone, Copy)]
 pub struct Filled {
     pub printing: Printing,
     pub length: usize,
 }
 
 // What is still to be printed, but for the views and their numbers, which are changed in place.
-#[derive(Drop)]
+#[derive(Clone, Copy)]
 struct Place {
     stage: Stage,
     settled: Settled,
@@ -25,7 +27,7 @@ struct Place {
 }
 
 // What is still to be printed behind a line that was put, and the length of the line.
-#[derive(Drop)]
+#[derive(Clone, Copy)]
 struct Put {
     place: Place,
     length: usize,

@@ -1,26 +1,28 @@
 -- All that is to be printed for an input is its output. Assumes nothing.
-use Rattle.laws.specs.Usual.{◌≡◌, refl, ap, ap₂, ◌∙◌, Bool, true, false, cond, List, [], ◌∷◌, ◌++◌, ℕ, suc, ◌+◌, length}
-use Rattle.std.specs.Prelude.{zero}
+use Rattle.laws.specs.Usual.{refl, ap, ap₂, ◌∙◌, Bool, true, false, cond, List, [], ℕ, suc, length}
+use Rattle.std.specs.Prelude.{◌≡◌, ◌∷◌, ◌++◌, ◌+◌, zero}
 use Rattle.std.proofs.Common.{eq-eqb}
 use Rattle.settling.specs.Steps.{after_all}
 use Rattle.settle_views.specs.Views.{stations_of, views_of}
 use Rattle.settle_views.specs.declared.Ring.{Ring}
 use Rattle.settle_moves.specs.Moves.{moved}
-use Rattle.settle_counts.specs.Kept.{views_small}
+use Rattle.settle_counts.proofs.Kept.{views_small}
 use Rattle.settle_run.specs.Run.{event_in, agreed_in, run_from, is_ring, limit_of, run_of}
 use Rattle.settle_run.specs.Running.{running_of, onward}
-use Rattle.settle_run.specs.Whole.{differs, some_station, proper_ring, steps, steps_from}
-use Rattle.settle_run.specs.Counted.{Held, running_after, RightCounts, counts_run, held_start, held_agreed, held_onward, held_step, run_ends}
+use Rattle.settle_run.proofs.Whole.{differs, some_station, proper_ring}
+use Rattle.settle_run.specs.Whole.{steps, steps_from}
+use Rattle.settle_run.specs.Counted.{Held, running_after, RightCounts}
+use Rattle.settle_run.proofs.Counted.{counts_run, held_start, held_agreed, held_onward, held_step, run_ends}
 use Rattle.settle_run.specs.declared.Running.{Running}
 use Rattle.settle_run.specs.declared.Settled.{Settled}
 use Rattle.settle_run.specs.declared.Stepped.{Stepped}
 use Rattle.settle_input.specs.Input.{read_of}
 use Rattle.settle_input.specs.Whole.{ring_read}
 use Rattle.settle_input.specs.declared.Verdict.{Verdict}
-use Rattle.settle_input.specs.declared.Verdict.TheVariants as verdicts
 use Rattle.settle_output.specs.Output.{header_line, step_line, settled_line}
 use Rattle.settle_rest.specs.Whole.{step_lines, answer_lines, run_lines, output_of}
 use Rattle.settle_rest.specs.Rest.{lines_from, run_rest, rest_of, stage_of, printing_for, printing_of}
+use Rattle.settle_input.specs.declared.Verdict.TheVariants as verdicts
 
 -- the lines that a run prints by its counts are those of the definition's steps
 pub lines_steps : (left : ℕ) (running : Running) → Held running → lines_from left running ≡ step_lines (length (run_from left running.ring)) running.ring

@@ -1,6 +1,6 @@
 -- What is still to be printed of `output_of`.
-use Rattle.laws.specs.Usual.{Bool, true, false, cond, List, [], ◌++◌, ℕ, suc, ◌+◌, ◌-◌, leb}
-use Rattle.std.specs.Prelude.{zero}
+use Rattle.laws.specs.Usual.{Bool, true, false, cond, List, [], ℕ, suc, leb}
+use Rattle.std.specs.Prelude.{◌++◌, ◌+◌, ◌-◌, zero}
 use Rattle.settle_views.specs.declared.Ring.{Ring}
 use Rattle.settle_run.specs.Run.{settled_of}
 use Rattle.settle_run.specs.Running.{running_of, next_step, onward, end_from}
@@ -8,11 +8,11 @@ use Rattle.settle_run.specs.Counted.{running_after}
 use Rattle.settle_run.specs.declared.Running.{Running}
 use Rattle.settle_input.specs.Input.{read_of}
 use Rattle.settle_input.specs.declared.Verdict.{Verdict}
-use Rattle.settle_input.specs.declared.Verdict.TheVariants as verdicts
 use Rattle.settle_output.specs.Output.{header_line, step_line, settled_line, bad_line}
 use Rattle.settle_rest.specs.declared.Stage.{Stage}
 use Rattle.settle_rest.specs.declared.Stage.TheVariants.{Bad, Header, Run, Over}
 use Rattle.settle_rest.specs.declared.Printing.{Printing}
+use Rattle.settle_input.specs.declared.Verdict.TheVariants as verdicts
 
 -- the lines of the steps that a run still makes, so many at most
 unfoldable pub lines_from : ℕ → Running → List ℕ

@@ -1,15 +1,17 @@
 -- Where a run is shortened, its first steps are left out and nothing else. Assumes nothing.
-use Rattle.laws.specs.Usual.{◌≡◌, refl, sym, ap, ap₂, ◌∙◌, Bool, true, false, cond, List, [], ◌∷◌, ◌++◌, ℕ, suc, ◌-◌, ◌≤◌, arith, length}
+use Rattle.laws.specs.Usual.{refl, sym, ap, ap₂, ◌∙◌, Bool, true, false, cond, List, [], ℕ, suc, arith, length}
 use Rattle.std.proofs.Common.{append_assoc}
-use Rattle.std.specs.Prelude.{zero}
+use Rattle.std.specs.Prelude.{◌≡◌, ◌∷◌, ◌++◌, ◌-◌, ◌≤◌, zero}
 use Rattle.settle_views.specs.Views.{stations_of, views_of}
 use Rattle.settle_views.specs.declared.Ring.{Ring}
 use Rattle.settle_moves.specs.Moves.{moved}
 use Rattle.settle_output.specs.Output.{step_line, settled_line}
 use Rattle.settle_run.specs.Run.{event_in, stepped_of, agreed_in, run_from, is_ring, run_of}
 use Rattle.settle_run.specs.Running.{running_of, onward, end_from}
-use Rattle.settle_run.specs.Whole.{differs, some_station, steps}
-use Rattle.settle_run.specs.Counted.{Held, running_after, held_start, held_agreed, held_onward, held_step}
+use Rattle.settle_run.proofs.Whole.{differs, some_station}
+use Rattle.settle_run.specs.Whole.{steps}
+use Rattle.settle_run.specs.Counted.{Held, running_after}
+use Rattle.settle_run.proofs.Counted.{held_start, held_agreed, held_onward, held_step}
 use Rattle.settle_run.specs.declared.Running.{Running}
 use Rattle.settle_run.specs.declared.Settled.{Settled}
 use Rattle.settle_run.specs.declared.Stepped.{Stepped}

@@ -1,14 +1,14 @@
 -- The whole output of `settle` for an input, and the paper's example. `settle_print/specs/Joined.antt` shows that it is what is printed.
-use Rattle.laws.specs.Usual.{◌≡◌, refl, List, [], ◌∷◌, ◌++◌, ℕ, suc, ◌+◌}
-use Rattle.std.specs.Prelude.{zero}
+use Rattle.laws.specs.Usual.{refl, List, [], ℕ, suc}
+use Rattle.std.specs.Prelude.{◌≡◌, ◌∷◌, ◌++◌, ◌+◌, zero}
 use Rattle.text.specs.Decimal.{decimal_at}
 use Rattle.settle_views.specs.declared.Ring.{Ring}
 use Rattle.settle_moves.specs.Moves.{moved}
 use Rattle.settle_run.specs.Run.{event_in, stepped_of, run_from, settled_of}
 use Rattle.settle_input.specs.Input.{lines_of, entry_of, forms_from, read_of}
 use Rattle.settle_input.specs.declared.Verdict.{Verdict}
-use Rattle.settle_input.specs.declared.Verdict.TheVariants as verdicts
 use Rattle.settle_output.specs.Output.{header_line, step_line, settled_line, bad_line}
+use Rattle.settle_input.specs.declared.Verdict.TheVariants as verdicts
 
 -- the lines of so many steps, each from the ring that the one before it leaves
 unfoldable pub step_lines : ℕ → Ring → List ℕ

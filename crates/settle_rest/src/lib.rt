@@ -1,12 +1,13 @@
 // What `settle` has still to print.
-ghost use Rattle.laws.specs.Usual.{◌≡◌};
+#![tactic(auto)]
+ghost use Rattle.std.specs.Prelude.{◌≡◌};
 ghost use Rattle.settle_rest.specs.Rest.{stage_of, printing_of, is_over};
 
 use settle_input::Verdict;
 use settle_run::Running;
 
 // What comes next: `bad,` and a line's number, the column names, the run, or nothing.
-#[derive(Drop)]
+#[derive(Clone, Copy)]
 pub enum Stage {
     Bad(u32),
     Header,
@@ -15,7 +16,7 @@ pub enum Stage {
 }
 
 // What is still to be printed: in a run the steps that it still makes, then the totals.
-#[derive(Drop)]
+#[derive(Clone, Copy)]
 pub struct Printing {
     pub stage: Stage,
     pub running: Running,

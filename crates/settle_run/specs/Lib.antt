@@ -2,7 +2,6 @@
 pub mod Run
 pub mod Running
 -- Theorems.
-pub mod Holders
-pub mod Whole
 pub mod Counted
 pub mod Examples
+pub mod Whole

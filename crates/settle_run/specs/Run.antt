@@ -1,6 +1,6 @@
 -- The run that `settle` makes. Words in quotes are paper 01's, section "settle".
-use Rattle.laws.specs.Usual.{◌≡◌, Bool, cond, ◌&&◌, List, [], ◌∷◌, ℕ, suc, ◌+◌, ◌-◌, ◌*◌, ◌≤◌, length, eqb, leb}
-use Rattle.std.specs.Prelude.{zero}
+use Rattle.laws.specs.Usual.{[], Bool, cond, List, ℕ, suc, length, eqb, leb}
+use Rattle.std.specs.Prelude.{◌≡◌, ◌&&◌, ◌∷◌, ◌+◌, ◌-◌, ◌*◌, ◌≤◌, zero}
 use Rattle.settling.specs.Steps.{after_all}
 use Rattle.settling.specs.Ring.{next, Event, pass, silence, passes, silences}
 use Rattle.settle_moves.specs.Moves.{moved}

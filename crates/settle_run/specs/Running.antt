@@ -1,7 +1,7 @@
 -- A run on its way, with its counts. Words in quotes are paper 02's, E3: "let it hold a running number for each view and the total, and
 -- adjust them at every pass and silence".
-use Rattle.laws.specs.Usual.{Bool, cond, ◌||◌, List, ℕ, suc, ◌+◌, ◌-◌, min, eqb, leb}
-use Rattle.std.specs.Prelude.{zero}
+use Rattle.laws.specs.Usual.{Bool, cond, List, ℕ, suc, min, eqb, leb}
+use Rattle.std.specs.Prelude.{◌||◌, ◌+◌, ◌-◌, zero}
 use Rattle.settle_views.specs.Views.{ring_with, stations_of}
 use Rattle.settle_views.specs.declared.Ring.{Ring}
 use Rattle.settle_moves.specs.Moves.{view_after, moved}

@@ -1,19 +1,20 @@
 // The run that `settle` makes: its beginning, its end, and the steps that it counts.
-ghost use Rattle.laws.specs.Usual.{◌≡◌};
+#![tactic(auto)]
+ghost use Rattle.std.specs.Prelude.{◌≡◌};
 ghost use Rattle.settle_run.specs.Run.{is_ring, limit_of};
 ghost use Rattle.settle_run.specs.Running.{one_more, added, running_of, has_ended};
 
 use settle_views::Ring;
 
 // What a step is, by the letter of its output line.
-#[derive(Drop)]
+#[derive(Clone, Copy)]
 pub enum Kind {
     Pass,
     Silence,
 }
 
 // A step: from which station to which the token was passed (both 0 in a silence), and the number of different views afterwards.
-#[derive(Drop)]
+#[derive(Clone, Copy)]
 pub struct Stepped {
     pub kind: Kind,
     pub from: u8,
@@ -22,7 +23,7 @@ pub struct Stepped {
 }
 
 // The steps of a run so far, and the number of different views after them. At the end of a run they are its totals.
-#[derive(Drop)]
+#[derive(Clone, Copy)]
 pub struct Settled {
     pub passes: u32,
     pub silences: u32,
@@ -30,7 +31,7 @@ pub struct Settled {
 }
 
 // A run on its way: the ring, how many stations have each view, the steps so far, and how many more the run is given.
-#[derive(Drop)]
+#[derive(Clone, Copy)]
 pub struct Running {
     pub ring: Ring,
     pub numbers: [u16; 256],

@@ -1,5 +1,7 @@
 // One step of the run that `settle` makes, and the whole with both counts.
-ghost use Rattle.laws.specs.Usual.{◌≡◌, length};
+#![tactic(auto)]
+ghost use Rattle.std.specs.Prelude.{◌≡◌};
+ghost use Rattle.laws.specs.Usual.{length};
 ghost use Rattle.settle_moves.specs.Moves.{moved};
 ghost use Rattle.settle_views.specs.Views.{ring_with, stations_of};
 ghost use Rattle.settle_run.specs.Run.{event_in, settled_of, Bounded};

@@ -1,5 +1,6 @@
 -- All views are equal where the number of different views is at most 1. Assumes nothing.
-use Rattle.laws.specs.Usual.{◌≡◌, refl, sym, ap, ◌∙◌, Bool, true, false, cond, false≢true, List, [], ◌∷◌, map, ℕ, suc, ◌<◌, ◌≤◌, arith, length, eqb}
+use Rattle.std.specs.Prelude.{◌≡◌, ◌∷◌, ◌<◌, ◌≤◌}
+use Rattle.laws.specs.Usual.{refl, sym, ap, ◌∙◌, Bool, true, false, cond, false≢true, List, [], map, ℕ, suc, arith, length, eqb}
 use Rattle.std.proofs.Math.Bool.{or-true}
 use mathlib.Core.List.Memᴰ
 use Rattle.std.proofs.Common.{eqb-true, eq-eqb}
@@ -10,6 +11,7 @@ use Rattle.settle_views.specs.Views.{member, different, different_views}
 at_map : (ns : List ℕ) (views : Views) (x : ℕ) → x ∈ ns → views x ∈ map views ns
 at_map (y ∷ ns) views x (Memᴰ.head e) = Memᴰ.head (ap views e)
 at_map (y ∷ ns) views x (Memᴰ.tail m) = Memᴰ.tail (at_map ns views x m)
+at_map [] views x x3 = elim x3 [ ]
 
 pub of_map : (ns : List ℕ) (views : Views) (v : ℕ) → v ∈ map views ns → (x : ℕ) × (x ∈ ns) × (v ≡ views x)
 of_map [] views v m = elim m [ ]
@@ -27,6 +29,7 @@ member_in x (y ∷ l) e = go (eqb x y) refl (member_in x l)
 pub in_member : (x : ℕ) (l : List ℕ) → x ∈ l → member x l ≡ true
 in_member x (y ∷ l) (Memᴰ.head e) = rw (eq-eqb x y e)
 in_member x (y ∷ l) (Memᴰ.tail m) = rw (in_member x l m, or-true (eqb x y))
+in_member x [] x'' = elim x'' [ ]
 
 -- all numbers of a list are equal
 abbrev AllEqual : List ℕ → Type 0
@@ -39,6 +42,7 @@ none (y ∷ l) h x m = go (member y l) refl (none l)
     go : (t : Bool) → member y l ≡ t → (different l ≤ 0 → (x : ℕ) → x ∈ l → ⊥) → ⊥
     go true e rest = rest (rw e at h) y (member_in y l e)
     go false e rest = omega (arith, rw e at h)
+none [] h x m = elim m [ ]
 
 one_equal : (l : List ℕ) → different l ≤ 1 → AllEqual l
 one_equal (z ∷ l) h x y a b = go (member z l) refl (one_equal l) a b
@@ -54,6 +58,7 @@ one_equal (z ∷ l) h x y a b = go (member z l) refl (one_equal l) a b
     go false e rest (Memᴰ.head p) (Memᴰ.head q) = p ∙ sym q
     go false e rest (Memᴰ.head p) (Memᴰ.tail k) = absurd (none l (omega (arith, rw e at h)) y k)
     go false e rest (Memᴰ.tail m) b = absurd (none l (omega (arith, rw e at h)) x m)
+one_equal [] h x y a b = elim a [ ]
 
 equal_one : (l : List ℕ) → AllEqual l → different l ≤ 1
 equal_one [] f = omega arith

@@ -1,7 +1,7 @@
 -- The stations of a list of views: a number is one of them where its view is not 0, and they ascend. Assumes nothing.
-use Rattle.laws.specs.Usual.{◌≡◌, refl, ap, subst, ◌∙◌, Bool, true, false, cond, List, [], ◌∷◌, map, ℕ, suc, ◌+◌, ◌≤◌, arith, length, get_or, eqb}
+use Rattle.laws.specs.Usual.{refl, ap, subst, ◌∙◌, Bool, true, false, cond, List, [], map, ℕ, suc, arith, length, get_or, eqb}
 use mathlib.Core.List.Memᴰ
-use Rattle.std.specs.Prelude.{zero}
+use Rattle.std.specs.Prelude.{◌≡◌, ◌∷◌, ◌+◌, ◌≤◌, zero}
 use Rattle.std.proofs.Common.{add-zero, eqb-true, eq-eqb, ne_eqb}
 use Rattle.std.proofs.lemmas.Bool.{eqb-false}
 use Rattle.settling.specs.Ring.{◌∈◌, Ascending}

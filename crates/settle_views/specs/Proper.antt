@@ -1,5 +1,6 @@
 -- A ring whose every view is one of its stations. Assumes nothing.
-use Rattle.laws.specs.Usual.{◌≡◌, refl, sym, ap, subst, ◌∙◌, Bool, true, false, false≢true, List, [], ◌∷◌, ℕ, suc, arith}
+use Rattle.std.specs.Prelude.{◌≡◌, ◌∷◌}
+use Rattle.laws.specs.Usual.{refl, sym, ap, subst, ◌∙◌, Bool, true, false, false≢true, List, [], ℕ, suc, arith}
 use mathlib.Core.List.Memᴰ
 use Rattle.std.proofs.Common.{zero-add, eq-eqb, ne_eqb}
 use Rattle.std.proofs.Math.Decide.{ℕ_discrete}

@@ -1,5 +1,6 @@
 -- The ring that `settle` works on, and what is looked up in it. Words in quotes are paper 01's.
-use Rattle.laws.specs.Usual.{Bool, false, cond, not, ◌||◌, List, [], ◌∷◌, map, ℕ, suc, get_or, eqb}
+use Rattle.std.specs.Prelude.{◌||◌, ◌∷◌}
+use Rattle.laws.specs.Usual.{Bool, false, cond, not, List, [], map, ℕ, suc, get_or, eqb}
 use Rattle.settling.specs.Ring.{Views}
 use Rattle.settle_views.specs.declared.Ring.{Ring}
 

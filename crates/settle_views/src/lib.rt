@@ -1,9 +1,12 @@
 // A ring of token views alone, and what is looked up in it.
-ghost use Rattle.laws.specs.Usual.{◌≡◌, length};
+#![tactic(auto)]
+
+ghost use Rattle.std.specs.Prelude.{◌≡◌};
+ghost use Rattle.laws.specs.Usual.{length};
 ghost use Rattle.settle_views.specs.Views.{ring_with, stations_of, views_of, smallest_holder, unlisted_in};
 
 // The view of each station number, 0 where no such station is listed.
-#[derive(Drop)]
+#[derive(Clone, Copy)]
 pub struct Ring {
     pub views: [u8; 256],
 }

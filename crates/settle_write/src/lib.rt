@@ -1,9 +1,12 @@
-// Hands what `settle` prints to the write call, part by part.
-ghost use Rattle.laws.specs.Usual.{◌≡◌, not};
+// Hands what `settle` prints to a writer, part by part.
+#![tactic(auto)]
+
+ghost use Rattle.std.specs.Prelude.{◌≡◌};
+ghost use Rattle.laws.specs.Usual.{not};
 ghost use Rattle.settle_rest.specs.Rest.{is_over};
 
-use libc::STDOUT_FILENO;
 use settle_rest::Printing;
+use std::io::{self, Write};
 
 fn has_more(printing: Printing) -> bool
     ensures { result ≡ not (is_over printing.stage) }
@@ -13,16 +16,15 @@ fn has_more(printing: Printing) -> bool
 }
 
 // Fills a buffer and writes its front until nothing is left to print, or what is written is not taken.
-pub fn write_rest(printing: Printing) {
-    let mut buffer = io::large_buffer();
+pub fn write_rest<W: Write>(printing: Printing, output: &mut W) -> io::Result<()> {
+    let mut buffer = [0u8; 65536];
     let mut now = printing;
     while has_more(now) {
         let filled = settle_print::fill(now, &mut buffer);
         let length = filled.length;
-        if !io::write_all(STDOUT_FILENO, &buffer[0..length]) {
-            return;
-        }
+        output.write_all(&buffer[0..length])?;
         let rest = filled.printing;
         now = rest;
     }
+    Ok(())
 }

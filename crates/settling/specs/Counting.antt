@@ -1,7 +1,8 @@
 -- Paper 01, "The ring in demand 3": what is a pass and what is a silence, their counts in a list of events, what an event does to the views,
 -- and what demand 3 concludes, one sentence a field. For any ring of which it is told whom an event gives the token to and whose watches it
 -- ends: the ring of full stations is one. Definitions alone; words in quotes are the paper's.
-use Rattle.laws.specs.Usual.{◌≡◌, Bool, true, false, cond, ◌||◌, List, [], ◌∷◌, ◌++◌, ℕ, ◌+◌, ◌-◌, ◌*◌, ◌≤◌, length, eqb}
+use Rattle.std.specs.Prelude.{◌≡◌, ◌||◌, ◌∷◌, ◌++◌, ◌+◌, ◌-◌, ◌*◌, ◌≤◌}
+use Rattle.laws.specs.Usual.{[], Bool, true, false, cond, List, ℕ, length, eqb}
 use Rattle.settling.specs.Ring.{◌∈◌, next, Views, Within, Agreed, view_after_pass}
 use Rattle.settling.specs.Steps.{after_all, EachFinds}
 

@@ -2,21 +2,15 @@
 -- The definitions.
 pub mod Steps
 pub mod Ring
-pub mod First
 pub mod Counting
 -- The proofs, in the order in which they build on each other.
-pub mod Append
-pub mod Next
-pub mod Count
-pub mod Moves
-pub mod Runs
-pub mod Turns
-pub mod Silences
-pub mod PassesLeft
-pub mod Passes
 -- The theorem, and how it is carried over to a ring of full stations.
 pub mod Settling
+pub mod Count
+pub mod First
+pub mod Moves
+pub mod Next
+pub mod PassesLeft
+pub mod Runs
 pub mod Same
-pub mod Simulation
-pub mod Counted
-pub mod Examples
+pub mod Silences

@@ -1,6 +1,7 @@
 -- The ring of token views: the definitions alone. Words in quotes are the paper's: its sections "The token view and the watch" and
 -- "The ring in demand 3", and demand 3.
-use Rattle.laws.specs.Usual.{◌≡◌, cond, List, [], ◌∷◌, ℕ, suc, ◌+◌, ◌<◌, min, length, eqb, ltb}
+use Rattle.std.specs.Prelude.{◌≡◌, ◌∷◌, ◌+◌, ◌<◌}
+use Rattle.laws.specs.Usual.{[], cond, List, ℕ, suc, min, length, eqb, ltb}
 use mathlib.Core.List.{Memᴰ}
 use Rattle.settling.specs.Steps.{after_all, EachFinds}
 

@@ -1,6 +1,6 @@
 -- Lists of inputs, one after the other, for any kind of state S and of input I. Definitions alone: the ring of views has views
 -- and events, a ring of full stations has stations and what is done to them.
-use Rattle.std.specs.Prelude.{List, [], ◌∷◌}
+use Rattle.std.specs.Prelude.{[], List, ◌∷◌}
 
 -- the state after a list of inputs, where `after` gives the state after one
 abbrev pub after_all : {S I : Type 0} → (S → I → S) → S → List I → S

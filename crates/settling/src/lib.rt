@@ -1,1 +1,2 @@
 // The ring of token views.
+#![tactic(auto)]

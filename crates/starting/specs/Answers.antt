@@ -1,7 +1,7 @@
 -- A start is answered by the phase and the settings alone, and its answer says what becomes of the state. Assumes nothing.
-use Rattle.laws.specs.Usual.{◌≡◌, refl, Bool, true, false, ◌&&◌, ltb}
+use Rattle.std.specs.Prelude.{◌≡◌, ◌&&◌}
+use Rattle.laws.specs.Usual.{refl, Bool, true, false, ltb}
 use Rattle.area.specs.Areas.{in_range}
-use Rattle.frame.specs.declared.Refusal.TheVariants as refusals
 use Rattle.frame_reading.specs.Reading.{is_station}
 use Rattle.station.specs.Rules.Starting.{Switching, need, start_of}
 use Rattle.station.specs.Rules.State.{is_off, fresh}
@@ -11,6 +11,7 @@ use Rattle.station.specs.declared.Settings.{Settings}
 use Rattle.station.specs.declared.Station.{Station}
 use Rattle.station.specs.declared.Switched.{Switched}
 use Rattle.station.specs.declared.Switched.TheVariants.{Done, Refused}
+use Rattle.frame.specs.declared.Refusal.TheVariants as refusals
 
 abbrev pub start_answer : Phase → Settings → Switched
 start_answer phase own = (start_of (fresh phase own) own).answer

@@ -1,5 +1,7 @@
 // Starting and stopping a station.
-ghost use Rattle.laws.specs.Usual.{◌≡◌, ◌&&◌, ltb};
+#![tactic(auto)]
+ghost use Rattle.std.specs.Prelude.{◌≡◌, ◌&&◌};
+ghost use Rattle.laws.specs.Usual.{ltb};
 ghost use Rattle.frame_reading.specs.Reading.{is_station};
 ghost use Rattle.station.specs.Rules.Starting.{start_of, stop_of};
 ghost use Rattle.starting.specs.Answers.{start_answer};
@@ -8,7 +10,7 @@ use frame::Refusal;
 use station::{Phase, Settings, Station, Switched};
 
 // A call of start or stop: the state after it, and the answer.
-#[derive(Drop)]
+#[derive(Clone, Copy)]
 pub struct Switching {
     pub station: Station,
     pub answer: Switched,

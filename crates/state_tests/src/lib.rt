@@ -1,5 +1,6 @@
 // Tests of a phase and of a view.
-ghost use Rattle.laws.specs.Usual.{◌≡◌};
+#![tactic(auto)]
+ghost use Rattle.std.specs.Prelude.{◌≡◌};
 ghost use Rattle.station.specs.Rules.State.{is_off, is_participating, holds as holds_of};
 ghost use Rattle.station.specs.Rules.Token.{takes as takes_of};
 

@@ -2,7 +2,4 @@
 pub mod History
 pub mod Counts
 pub mod Moves
-pub mod Ticked
-pub mod Heard
-pub mod Asked
 pub mod PanelIsGap

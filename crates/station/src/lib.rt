@@ -1,11 +1,12 @@
 // The state of a station, and what its calls answer.
+#![tactic(auto)]
 use area::Areas;
 use frame::Refusal;
 use members::Members;
 use panel::Panel;
 use units::{Milliseconds, Ticks};
 
-#[derive(Drop)]
+#[derive(Clone, Copy)]
 pub enum Phase {
     Off,
     Listening,
@@ -16,7 +17,7 @@ pub enum Phase {
 
 // What a station is started with.
 #[repr(C)]
-#[derive(Drop)]
+#[derive(Clone, Copy)]
 pub struct Settings {
     pub number: u8,
     pub areas: Areas,
@@ -25,13 +26,13 @@ pub struct Settings {
 
 // What has been put together of a turn: whose it is, and how many of its blocks. Source 0 is nobody's.
 #[repr(C)]
-#[derive(Drop)]
+#[derive(Clone, Copy)]
 pub struct Gathering {
     pub source: u8,
     pub blocks: u8,
 }
 
-#[derive(Drop)]
+#[derive(Clone, Copy)]
 pub struct Station {
     pub phase: Phase,
     pub own: Settings,
@@ -53,20 +54,20 @@ pub struct Station {
 }
 
 // What start and stop answer.
-#[derive(Drop)]
+#[derive(Clone, Copy)]
 pub enum Switched {
     Done,
     Refused(Refusal),
 }
 
-#[derive(Drop)]
+#[derive(Clone, Copy)]
 pub enum Ticked {
     Off,
     Done,
 }
 
 // What became of a cyclic frame's data.
-#[derive(Drop)]
+#[derive(Clone, Copy)]
 pub enum Data {
     Kept,
     Written,
@@ -75,7 +76,7 @@ pub enum Data {
 }
 
 // "has what became of the token (none, passed on, ours now": each case carries what became of the data (paper 01, list of forms).
-#[derive(Drop)]
+#[derive(Clone, Copy)]
 pub enum Token {
     None(Data),
     PassedOn(Data),
@@ -84,7 +85,7 @@ pub enum Token {
     RivalWon(Data),
 }
 
-#[derive(Drop)]
+#[derive(Clone, Copy)]
 pub enum Heard {
     Off,
     Done,
@@ -93,7 +94,7 @@ pub enum Heard {
 }
 
 // The octets of the frame that was written, or why there is none.
-#[derive(Drop)]
+#[derive(Clone, Copy)]
 pub enum Asked {
     Octets(usize),
     Refused(Refusal),

@@ -1,6 +1,6 @@
 -- Numbers as text in ASCII.
-use Rattle.laws.specs.Usual.{Bool, true, false, List, [], ◌∷◌, ◌++◌, ℕ, suc, ◌+◌, ◌/◌, ◌%◌, ltb}
-use Rattle.std.specs.Prelude.{zero}
+use Rattle.laws.specs.Usual.{Bool, true, false, List, [], ℕ, suc, ltb}
+use Rattle.std.specs.Prelude.{◌∷◌, ◌++◌, ◌+◌, ◌/◌, ◌%◌, zero}
 
 -- the last digit of a number behind the others, which stand there only where the number has more than one
 abbrev pub behind : Bool → List ℕ → ℕ → List ℕ

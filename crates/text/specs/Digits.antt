@@ -1,6 +1,6 @@
 -- Laws of decimal text. Assumes nothing.
-use Rattle.laws.specs.Usual.{◌≡◌, sym, ap, ◌∙◌, Bool, true, false, List, [], ◌∷◌, ◌++◌, ℕ, suc, ◌+◌, ◌/◌, ◌%◌, ◌<◌, ◌≤◌, arith, length, ltb}
-use Rattle.std.specs.Prelude.{zero, ◌^◌}
+use Rattle.laws.specs.Usual.{sym, ap, ◌∙◌, Bool, true, false, List, [], ℕ, suc, arith, length, ltb}
+use Rattle.std.specs.Prelude.{◌≡◌, ◌∷◌, ◌++◌, ◌+◌, ◌/◌, ◌%◌, ◌<◌, ◌≤◌, zero, ◌^◌}
 use Rattle.std.proofs.Common.{length-append, pow-suc, lt-ltb, le-ltb}
 use Rattle.text.specs.Decimal.{behind, decimal_at, decimal_of}
 

@@ -1,5 +1,6 @@
 -- Laws of lines. Assumes nothing.
-use Rattle.laws.specs.Usual.{◌≡◌, sym, ap, ◌∙◌, List, [], ◌∷◌, ◌++◌, ℕ, ◌+◌, ◌*◌, ◌≤◌, arith, length}
+use Rattle.std.specs.Prelude.{◌≡◌, ◌∷◌, ◌++◌, ◌+◌, ◌*◌, ◌≤◌}
+use Rattle.laws.specs.Usual.{sym, ap, ◌∙◌, List, [], ℕ, arith, length}
 use Rattle.std.proofs.Common.{append_assoc, append-nil, length-append}
 use Rattle.text.specs.Decimal.{decimal_of}
 use Rattle.text.specs.Digits.{at_most}

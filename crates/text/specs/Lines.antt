@@ -1,5 +1,6 @@
 -- Lines of text: a word, then numbers in decimal with a comma in front of each, then a line feed.
-use Rattle.laws.specs.Usual.{List, [], ◌∷◌, ◌++◌, ℕ}
+use Rattle.std.specs.Prelude.{◌∷◌, ◌++◌}
+use Rattle.laws.specs.Usual.{List, [], ℕ}
 use Rattle.text.specs.Decimal.{decimal_of}
 
 abbrev pub space : ℕ

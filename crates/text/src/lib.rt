@@ -1,5 +1,8 @@
 // Numbers and lines as text in ASCII, written into a lent buffer.
-ghost use Rattle.laws.specs.Usual.{◌≡◌, ◌∷◌, ◌+◌, ◌*◌, ◌≤◌, length};
+#![tactic(auto)]
+
+ghost use Rattle.std.specs.Prelude.{◌≡◌, ◌∷◌, ◌+◌, ◌*◌, ◌≤◌};
+ghost use Rattle.laws.specs.Usual.{length};
 ghost use Rattle.copying.specs.Pasted.{pasted};
 ghost use Rattle.text.specs.Decimal.{decimal_of};
 ghost use Rattle.text.specs.Lines.{comma, numbers_of, line_of};

@@ -1,5 +1,6 @@
 -- A text that comes octet by octet to a program that answers it line by line.
-use Rattle.laws.specs.Usual.{◌≡◌, Bool, true, false, cond, ◌&&◌, List, [], ◌∷◌, ◌++◌, ℕ, ◌-◌, ◌<◌, ◌≤◌, length, get_or, take, drop, eqb, ltb}
+use Rattle.std.specs.Prelude.{◌≡◌, ◌&&◌, ◌∷◌, ◌++◌, ◌-◌, ◌<◌, ◌≤◌}
+use Rattle.laws.specs.Usual.{[], Bool, true, false, cond, List, ℕ, length, get_or, take, drop, eqb, ltb}
 use Rattle.text.specs.Lines.{line_feed}
 use Rattle.text_scanning.specs.Scanning.{push_all}
 

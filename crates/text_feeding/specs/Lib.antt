@@ -1,8 +1,4 @@
--- The definitions of this crate, and what is proved of them.
+-- The definitions of this crate.
 pub mod Feeding
--- Theorems.
-pub mod Fed
+pub mod Counts
 pub mod Cut
-pub mod Scan
-pub mod Lines
-pub mod Front

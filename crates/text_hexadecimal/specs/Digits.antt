@@ -1,5 +1,6 @@
 -- A hexadecimal digit is below 16. Assumes nothing.
-use Rattle.laws.specs.Usual.{◌≡◌, refl, Bool, true, false, cond, ℕ, ◌-◌, ◌<◌, ◌≤◌, arith, leb}
+use Rattle.std.specs.Prelude.{◌≡◌, ◌-◌, ◌<◌, ◌≤◌}
+use Rattle.laws.specs.Usual.{refl, Bool, true, false, cond, ℕ, arith, leb}
 use Rattle.std.proofs.Common.{leb-true}
 use Rattle.laws.specs.Tests.{second}
 use Rattle.text_hexadecimal.specs.Hexadecimal.{between, digit_of}

@@ -1,5 +1,6 @@
 -- A line of hexadecimal digits as the octets that it spells: "one frame a line in hexadecimal (either case, no separators, any length)".
-use Rattle.laws.specs.Usual.{Bool, cond, ◌&&◌, List, [], ◌∷◌, ℕ, ◌+◌, ◌-◌, ◌*◌, leb}
+use Rattle.std.specs.Prelude.{◌&&◌, ◌∷◌, ◌+◌, ◌-◌, ◌*◌}
+use Rattle.laws.specs.Usual.{Bool, cond, List, [], ℕ, leb}
 use Rattle.text_hexadecimal.specs.declared.Hexadecimal.{Hexadecimal}
 use Rattle.text_hexadecimal.specs.declared.Hexadecimal.TheVariants.{Digit, Other}
 

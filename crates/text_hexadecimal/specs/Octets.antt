@@ -1,5 +1,6 @@
 -- The octets that hexadecimal digits spell.
-use Rattle.laws.specs.Usual.{Bool, true, false, ◌&&◌, List, [], ◌∷◌, ℕ, ◌+◌, ◌*◌, get_or}
+use Rattle.std.specs.Prelude.{◌&&◌, ◌∷◌, ◌+◌, ◌*◌}
+use Rattle.laws.specs.Usual.{Bool, true, false, List, [], ℕ, get_or}
 use Rattle.text_hexadecimal.specs.Hexadecimal.{Spelled, octets, neither, digit_of, spelled}
 use Rattle.text_hexadecimal.specs.declared.Hexadecimal.{Hexadecimal}
 use Rattle.text_hexadecimal.specs.declared.Hexadecimal.TheVariants.{Digit, Other}

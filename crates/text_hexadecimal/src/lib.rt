@@ -1,10 +1,12 @@
 // Hexadecimal digits.
-ghost use Rattle.laws.specs.Usual.{◌≡◌};
+#![tactic(auto)]
+
+ghost use Rattle.std.specs.Prelude.{◌≡◌};
 ghost use Rattle.text_hexadecimal.specs.Hexadecimal.{digit_of};
 ghost use Rattle.text_hexadecimal.specs.Octets.{is_hexadecimal};
 
 // What an octet stands for.
-#[derive(Drop)]
+#[derive(Clone, Copy)]
 pub enum Hexadecimal {
     Digit(u8),
     Other,

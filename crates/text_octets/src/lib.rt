@@ -1,5 +1,7 @@
 // The octets that hexadecimal digits spell.
-ghost use Rattle.laws.specs.Usual.{◌≡◌, ◌+◌, ◌*◌, ◌<◌, length, take};
+#![tactic(auto)]
+ghost use Rattle.std.specs.Prelude.{◌≡◌, ◌+◌, ◌*◌, ◌<◌};
+ghost use Rattle.laws.specs.Usual.{length, take};
 ghost use Rattle.copying.specs.Pasted.{pasted};
 ghost use Rattle.text_hexadecimal.specs.Octets.{all_hexadecimal, value_of, octet_at, octets_of};
 

@@ -1,5 +1,8 @@
 // Reading text: the place where a part of a line ends.
-ghost use Rattle.laws.specs.Usual.{◌≡◌, ◌+◌, drop};
+#![tactic(auto)]
+
+ghost use Rattle.std.specs.Prelude.{◌≡◌, ◌+◌};
+ghost use Rattle.laws.specs.Usual.{drop};
 ghost use Rattle.text_reading.specs.Marks.{before};
 
 // The place of the first mark from a place on, or behind the last octet.

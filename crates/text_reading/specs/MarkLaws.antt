@@ -1,6 +1,6 @@
 -- Laws of the place of a mark. Assumes nothing.
-use Rattle.laws.specs.Usual.{◌≡◌, refl, sym, ap, ap₂, ◌∙◌, Bool, true, false, cond, List, [], ◌∷◌, ◌++◌, ℕ, suc, ◌+◌, ◌<◌, ◌≤◌, arith, length, get_or, take, drop, eqb}
-use Rattle.std.specs.Prelude.{zero}
+use Rattle.laws.specs.Usual.{refl, sym, ap, ap₂, ◌∙◌, Bool, true, false, cond, List, [], ℕ, suc, arith, length, get_or, take, drop, eqb}
+use Rattle.std.specs.Prelude.{◌≡◌, ◌∷◌, ◌++◌, ◌+◌, ◌<◌, ◌≤◌, zero}
 use Rattle.std.proofs.Common.{add-one, eq-eqb, eqb-true, length-append, take_at, drop_at, drop-drop}
 use Rattle.std.proofs.Math.Seq.{split_at}
 use Rattle.text_reading.specs.Marks.{before, up_to, behind}

@@ -1,5 +1,6 @@
 -- The place of a mark among octets.
-use Rattle.laws.specs.Usual.{Bool, cond, List, [], ◌∷◌, ℕ, suc, ◌+◌, length, take, drop, eqb, ltb}
+use Rattle.std.specs.Prelude.{◌∷◌, ◌+◌}
+use Rattle.laws.specs.Usual.{Bool, cond, List, [], ℕ, suc, length, take, drop, eqb, ltb}
 
 -- the number of octets before the first mark, or of all where there is none
 abbrev pub before : ℕ → List ℕ → ℕ

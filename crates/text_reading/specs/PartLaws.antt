@@ -1,6 +1,6 @@
 -- Laws of the parts of a line, for code that goes through it from place to place. Assumes nothing.
-use Rattle.laws.specs.Usual.{◌≡◌, refl, sym, ap, ap₂, ◌∙◌, Bool, true, false, cond, List, [], ◌∷◌, ℕ, suc, ◌+◌, ◌<◌, ◌≤◌, arith, length, get_or, take, drop, eqb, leb, ltb}
-use Rattle.std.specs.Prelude.{zero}
+use Rattle.laws.specs.Usual.{refl, sym, ap, ap₂, ◌∙◌, Bool, true, false, cond, List, [], ℕ, suc, arith, length, get_or, take, drop, eqb, leb, ltb}
+use Rattle.std.specs.Prelude.{◌≡◌, ◌∷◌, ◌+◌, ◌<◌, ◌≤◌, zero}
 use Rattle.std.proofs.Math.Decide.{dec_le, dec_lt}
 use Rattle.std.proofs.Common.{add-zero, add-one, le-leb, lt-ltb, le-ltb, length-take, length-drop, drop-drop, get_or-drop}
 use Rattle.std.proofs.lemmas.Bool.{lt-leb}

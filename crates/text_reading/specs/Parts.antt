@@ -1,5 +1,6 @@
 -- The parts of a line between marks: its words between spaces, its fields between commas.
-use Rattle.laws.specs.Usual.{cond, List, [], ◌∷◌, ℕ, ◌+◌, length, get_or, drop, eqb, ltb}
+use Rattle.std.specs.Prelude.{◌∷◌, ◌+◌}
+use Rattle.laws.specs.Usual.{cond, List, [], ℕ, length, get_or, drop, eqb, ltb}
 
 -- an octet in front of the first of some parts
 abbrev pub in_front : ℕ → List (List ℕ) → List (List ℕ)

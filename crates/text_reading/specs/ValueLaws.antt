@@ -1,5 +1,6 @@
 -- Laws of the number that is read, for code that reads it octet by octet. Assumes nothing.
-use Rattle.laws.specs.Usual.{◌≡◌, refl, sym, ap, ◌∙◌, Bool, true, false, cond, ◌&&◌, List, [], ◌∷◌, ℕ, suc, ◌+◌, ◌-◌, ◌*◌, ◌<◌, ◌≤◌, arith, length, get_or, drop, eqb, leb, ltb}
+use Rattle.std.specs.Prelude.{◌≡◌, ◌&&◌, ◌∷◌, ◌+◌, ◌-◌, ◌*◌, ◌<◌, ◌≤◌}
+use Rattle.laws.specs.Usual.{refl, sym, ap, ◌∙◌, Bool, true, false, cond, List, [], ℕ, suc, arith, length, get_or, drop, eqb, leb, ltb}
 use Rattle.std.proofs.Math.Decide.{dec_lt}
 use Rattle.std.proofs.Common.{add-one, le-leb, leb-true, lt-ltb, le-ltb, drop-cons}
 use Rattle.std.proofs.lemmas.Bool.{lt-leb}

@@ -1,5 +1,6 @@
 -- Decimal numbers as they are read: without leading zeros, and at most a limit.
-use Rattle.laws.specs.Usual.{Bool, cond, ◌&&◌, List, [], ◌∷◌, ℕ, ◌+◌, ◌-◌, ◌*◌, length, eqb, leb, ltb}
+use Rattle.std.specs.Prelude.{◌&&◌, ◌∷◌, ◌+◌, ◌-◌, ◌*◌}
+use Rattle.laws.specs.Usual.{Bool, cond, List, [], ℕ, length, eqb, leb, ltb}
 use Rattle.text_reading.specs.declared.Value.{Value}
 use Rattle.text_reading.specs.declared.Value.TheVariants.{Number, Nothing}
 

@@ -1,9 +1,11 @@
 // Reading text: a decimal number of at most a limit.
-ghost use Rattle.laws.specs.Usual.{◌≡◌};
+#![tactic(auto)]
+
+ghost use Rattle.std.specs.Prelude.{◌≡◌};
 ghost use Rattle.text_reading.specs.Values.{is_digit, value_on, decimal_in};
 
 // The number that some octets are, or that they are none.
-#[derive(Drop)]
+#[derive(Clone, Copy)]
 pub enum Value {
     Number(u32),
     Nothing,

@@ -1,5 +1,6 @@
 -- A text that is taken octet by octet, up to its next line feed. What has come so far is a state, and what is stored of it a buffer.
-use Rattle.laws.specs.Usual.{◌≡◌, Bool, true, false, cond, List, [], ◌∷◌, ℕ, ◌+◌, eqb}
+use Rattle.std.specs.Prelude.{◌≡◌, ◌∷◌, ◌+◌}
+use Rattle.laws.specs.Usual.{Bool, true, false, cond, List, [], ℕ, eqb}
 use Rattle.text.specs.Lines.{line_feed}
 
 -- the octets have no line feed among them

@@ -1,5 +1,6 @@
 -- A scan takes a line octet by octet, wherever the text is cut into parts. Assumes nothing.
-use Rattle.laws.specs.Usual.{◌≡◌, refl, sym, ap, ◌∙◌, Bool, true, false, List, [], ◌∷◌, ◌++◌, ℕ, ◌+◌, ◌<◌, arith, length, get_or, drop}
+use Rattle.std.specs.Prelude.{◌≡◌, ◌∷◌, ◌++◌, ◌+◌, ◌<◌}
+use Rattle.laws.specs.Usual.{refl, sym, ap, ◌∙◌, Bool, true, false, List, [], ℕ, arith, length, get_or, drop}
 use Rattle.std.proofs.Common.{add-one, drop-cons, ne_eqb}
 use Rattle.text.specs.Lines.{line_feed}
 use Rattle.text_scanning.specs.Scanning.{NoFeed, push_all, store_all, scan_of, buffer_of}

@@ -1,5 +1,7 @@
 // A tick.
-ghost use Rattle.laws.specs.Usual.{◌≡◌, cond, ◌&&◌};
+#![tactic(auto)]
+ghost use Rattle.std.specs.Prelude.{◌≡◌, ◌&&◌};
+ghost use Rattle.laws.specs.Usual.{cond};
 ghost use Rattle.members.specs.Members.{numbers_of, is_listed, strikes};
 ghost use Rattle.station.specs.Rules.Data.{without as without_of};
 ghost use Rattle.station.specs.Rules.Starting.{started_up};
@@ -15,7 +17,7 @@ use waits::{wait_ends, waited_then};
 use waits_watch::watch_ends;
 
 // A call of tick: the state after it, and the answer.
-#[derive(Drop)]
+#[derive(Clone, Copy)]
 pub struct Ticking {
     pub station: Station,
     pub answer: Ticked,

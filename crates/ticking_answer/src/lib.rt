@@ -1,5 +1,6 @@
 // What a tick is answered.
-ghost use Rattle.laws.specs.Usual.{◌≡◌};
+#![tactic(auto)]
+ghost use Rattle.std.specs.Prelude.{◌≡◌};
 ghost use Rattle.station.specs.Rules.Ticking.{tick_answer};
 
 use station::{Phase, Ticked};

@@ -1,6 +1,6 @@
 -- Ticks that only count leave the counts that are said. Assumes nothing.
-use Rattle.laws.specs.Usual.{◌≡◌, refl, sym, ap, ◌∙◌, Bool, true, false, cond, ◌&&◌, false≢true, ℕ, suc, ◌+◌, ◌<◌, ◌≤◌, min, arith, eqb, leb, ltb}
-use Rattle.std.specs.Prelude.{zero}
+use Rattle.laws.specs.Usual.{refl, sym, ap, ◌∙◌, Bool, true, false, cond, false≢true, ℕ, suc, min, arith, eqb, leb, ltb}
+use Rattle.std.specs.Prelude.{◌≡◌, ◌&&◌, ◌+◌, ◌<◌, ◌≤◌, zero}
 use Rattle.std.proofs.Math.Bool.{and-false}
 use Rattle.std.proofs.Common.{le_refl, le-ltb, ltb-true, ltb-false}
 use Rattle.std.proofs.lemmas.Bool.{lt-leb}
@@ -13,7 +13,7 @@ use Rattle.station.specs.declared.Station.{Station}
 use Rattle.units.specs.declared.Milliseconds.{Milliseconds}
 use Rattle.units.specs.declared.Ticks.{Ticks}
 use Rattle.ticking_quiet.specs.Many.{after_ticks}
-use Rattle.ticking_quiet.specs.ManyLaws.{one_more}
+use Rattle.ticking_quiet.proofs.ManyLaws.{one_more}
 use Rattle.ticking_quiet.specs.Quiet.{before, before_request}
 use Rattle.ticking_calm.specs.Calm.{calm_in, later_by, counts_after, counts_of, with_counts, calm_of, calm_after}
 use Rattle.ticking_calm.specs.Sums.{not_above, not_below}

@@ -1,6 +1,6 @@
 -- Many ticks more are one sum. Assumes nothing.
-use Rattle.laws.specs.Usual.{◌≡◌, refl, ap, ◌∙◌, ℕ, suc, ◌+◌, ◌≤◌, min, arith}
-use Rattle.std.specs.Prelude.{zero}
+use Rattle.laws.specs.Usual.{refl, ap, ◌∙◌, ℕ, suc, min, arith}
+use Rattle.std.specs.Prelude.{◌≡◌, ◌+◌, ◌≤◌, zero}
 use Rattle.panel.specs.declared.Panel.{Panel}
 use Rattle.units.specs.declared.Ticks.{Ticks}
 use Rattle.ticking_calm.specs.Calm.{later_by, ticked_by}

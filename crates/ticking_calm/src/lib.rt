@@ -1,5 +1,7 @@
 // Ticks that only count, many at once.
-ghost use Rattle.laws.specs.Usual.{◌≡◌, cond, eqb};
+#![tactic(auto)]
+ghost use Rattle.std.specs.Prelude.{◌≡◌};
+ghost use Rattle.laws.specs.Usual.{cond, eqb};
 ghost use Rattle.station.specs.Rules.Waits.{number_wait};
 ghost use Rattle.ticking_calm.specs.Calm.{calm_in, later_by, ticked_by, counts_after};
 
@@ -9,7 +11,7 @@ use ticking_left::{least, left_in};
 use units::{Milliseconds, Ticks};
 
 // What a station counts by its ticks.
-#[derive(Drop)]
+#[derive(Clone, Copy)]
 pub struct Counts {
     pub elapsed: Ticks,
     pub waited: Ticks,

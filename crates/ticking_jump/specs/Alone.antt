@@ -1,7 +1,7 @@
 -- A participant that holds and is alone: whenever its watch ends, it is its own next, and the watch restarts. Its ticks go round its watch. Assumes
 -- nothing.
-use Rattle.laws.specs.Usual.{◌≡◌, refl, sym, ap, ◌∙◌, Bool, true, false, not, ◌&&◌, false≢true, ℕ, suc, ◌+◌, ◌*◌, ◌/◌, ◌%◌, ◌<◌, ◌≤◌, min, arith, eqb, leb}
-use Rattle.std.specs.Prelude.{zero}
+use Rattle.laws.specs.Usual.{refl, sym, ap, ◌∙◌, Bool, true, false, not, false≢true, ℕ, suc, min, arith, eqb, leb}
+use Rattle.std.specs.Prelude.{◌≡◌, ◌&&◌, ◌+◌, ◌*◌, ◌/◌, ◌%◌, ◌<◌, ◌≤◌, zero}
 use Rattle.std.proofs.Common.{div-add-mod', mod-lt, mod-eq_of_lt, suc-mul, eqb-true, eq-eqb, ltb-true, leb-true, leb-false}
 use Rattle.std.proofs.lemmas.Bool.{not-true}
 use Rattle.std.proofs.Math.Arith.{digits_mod}
@@ -14,7 +14,7 @@ use Rattle.station.specs.declared.Phase.{Phase}
 use Rattle.station.specs.declared.Phase.TheVariants.{Off, Listening, Startup, Joining, Participating}
 use Rattle.station.specs.declared.Station.{Station}
 use Rattle.ticking_quiet.specs.Many.{after_ticks}
-use Rattle.ticking_quiet.specs.ManyLaws.{one_more}
+use Rattle.ticking_quiet.proofs.ManyLaws.{one_more}
 use Rattle.ticking_calm.specs.Calm.{counts_of, with_counts}
 use Rattle.ticking_jump.specs.Jump.{is_alone, in_time, round_after}
 

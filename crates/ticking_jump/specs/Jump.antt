@@ -1,5 +1,6 @@
 -- Some of the next ticks jumped over: those that only count, or all of a participant that holds and is alone, which go round its watch.
-use Rattle.laws.specs.Usual.{Bool, cond, not, ◌&&◌, ℕ, ◌+◌, ◌-◌, ◌%◌, eqb, ltb}
+use Rattle.std.specs.Prelude.{◌&&◌, ◌+◌, ◌-◌, ◌%◌}
+use Rattle.laws.specs.Usual.{Bool, cond, not, ℕ, eqb, ltb}
 use Rattle.members.specs.Members.{is_listed, next_after}
 use Rattle.station.specs.Rules.State.{is_participating, holds}
 use Rattle.station.specs.Rules.Ticking.{watch_time}

@@ -1,10 +1,11 @@
 -- To jump over ticks is to make them. Assumes nothing.
-use Rattle.laws.specs.Usual.{◌≡◌, refl, sym, ap, ◌∙◌, Bool, true, false, cond, ◌&&◌, ℕ, suc, ◌+◌, ◌-◌, ◌<◌, ◌≤◌, arith}
+use Rattle.std.specs.Prelude.{◌≡◌, ◌&&◌, ◌+◌, ◌-◌, ◌<◌, ◌≤◌}
+use Rattle.laws.specs.Usual.{refl, sym, ap, ◌∙◌, Bool, true, false, cond, ℕ, suc, arith}
 use Rattle.std.proofs.Common.{le_refl}
 use Rattle.station.specs.Rules.Ticking.{watch_time, tick_of}
 use Rattle.station.specs.declared.Station.{Station}
 use Rattle.ticking_quiet.specs.Many.{after_ticks}
-use Rattle.ticking_quiet.specs.ManyLaws.{one_more, some_more}
+use Rattle.ticking_quiet.proofs.ManyLaws.{one_more, some_more}
 use Rattle.ticking_calm.specs.Calm.{counts_of, with_counts, calm_of}
 use Rattle.ticking_calm.specs.CalmTicks.{calm_few, calm_ticks}
 use Rattle.ticking_jump.specs.declared.Jumped.{Jumped}

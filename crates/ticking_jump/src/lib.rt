@@ -1,5 +1,6 @@
 // Ticks jumped over at once, on the counts of a station alone.
-ghost use Rattle.laws.specs.Usual.{◌≡◌, ◌<◌};
+#![tactic(auto)]
+ghost use Rattle.std.specs.Prelude.{◌≡◌, ◌<◌};
 ghost use Rattle.station.specs.Rules.Waits.{watch_ticks};
 ghost use Rattle.ticking_jump.specs.Jump.{skipped, round_after, jump_in};
 
@@ -8,7 +9,7 @@ use ticking_calm::Counts;
 use units::{Milliseconds, Ticks};
 
 // The counts after the ticks that were jumped over, and the ticks that are still to come.
-#[derive(Drop)]
+#[derive(Clone, Copy)]
 pub struct Jumped {
     pub counts: Counts,
     pub ticks: u32,

@@ -1,5 +1,7 @@
 // The ticks before the next end of a wait or of the watch.
-ghost use Rattle.laws.specs.Usual.{◌≡◌, not, ◌&&◌, min, eqb};
+#![tactic(auto)]
+ghost use Rattle.std.specs.Prelude.{◌≡◌, ◌&&◌};
+ghost use Rattle.laws.specs.Usual.{not, min, eqb};
 ghost use Rattle.station.specs.Rules.Waits.{detection_wait, acceptance_time, number_wait};
 ghost use Rattle.ticking_quiet.specs.Quiet.{before as before_of, before_request, runs as runs_of, left_in};
 

@@ -1,5 +1,6 @@
 // Many ticks in one call.
-ghost use Rattle.laws.specs.Usual.{◌≡◌, ◌-◌, ◌≤◌};
+#![tactic(auto)]
+ghost use Rattle.std.specs.Prelude.{◌≡◌, ◌-◌, ◌≤◌};
 ghost use Rattle.ticking_quiet.specs.Many.{after_ticks, ticks_of};
 ghost use Rattle.ticking_jump.specs.Jump.{is_alone};
 
@@ -8,7 +9,7 @@ use ticking::Ticking;
 use ticking_calm::Counts;
 
 // A station, and the ticks that are still to come.
-#[derive(Drop)]
+#[derive(Clone, Copy)]
 struct Left {
     station: Station,
     ticks: u32,

@@ -1,48 +1,14 @@
 -- Worked cases. Assumes nothing.
-use Rattle.laws.specs.Usual.{◌≡◌, refl, true}
+use Rattle.laws.specs.Usual.{true}
 use Rattle.frame_writing.specs.Writing.{no_areas}
 use Rattle.members.specs.Members.{no_members, with_entry}
-use Rattle.station.specs.Rules.State.{fresh, begun, never as never_started, request_sent}
-use Rattle.station.specs.declared.Phase.TheVariants.{Listening, Startup}
 use Rattle.station.specs.declared.Settings.{Settings}
 use Rattle.station.specs.Types.{Members}
-use Rattle.ticking_quiet.specs.Many.{after_ticks, ticks_of}
-use Rattle.ticking_quiet.specs.Quiet.{never, till, quiet_of, tick_is_news}
 
 -- station 3, with a watch time of 2 ms
-abbrev third : Settings
+abbrev pub third : Settings
 third = record { number = 3; areas = no_areas; watch = record { 0 = 2 } }
 
 -- a list of station 9 alone, with a watch time of 4 ms
-abbrev ninth : Members
+abbrev pub ninth : Members
 ninth = with_entry no_members 9 (record { listed = true; areas = no_areas; watch = record { 0 = 4 }; misses = 0 })
-
-off_station : quiet_of never_started ≡ never
-off_station = refl
-
--- token detection takes 30,000 ticks and the trigger wait 120
-listening : quiet_of (fresh Listening third) ≡ till 30119
-listening = refl
-
--- the wait for our number, 120 ticks, ends before the acceptance time, 12,000
-starting : quiet_of (fresh Startup third) ≡ till 119
-starting = refl
-
-request_sent_lem : quiet_of (request_sent (fresh Startup third)) ≡ till 11999
-request_sent_lem = refl
-
--- the watch: 40 ticks with 9 in view, 20 while we hold
-watching : quiet_of (begun third ninth 9) ≡ till 39
-watching = refl
-
-last_tick : tick_is_news (after_ticks 39 (begun third ninth 9)) ≡ true
-last_tick = refl
-
-holding : quiet_of (begun third ninth 3) ≡ till 19
-holding = refl
-
-alone : quiet_of (begun third no_members 3) ≡ never
-alone = refl
-
-one_tick : (ticks_of 1 (begun third ninth 9)).station.elapsed.0 ≡ 1
-one_tick = refl

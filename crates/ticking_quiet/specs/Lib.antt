@@ -2,9 +2,6 @@
 pub mod Many
 pub mod Quiet
 -- Theorems.
-pub mod ManyLaws
-pub mod Alone
-pub mod Step
-pub mod QuietExact
 -- Worked cases.
+pub mod Alone
 pub mod Cases

@@ -1,5 +1,6 @@
 -- How long a host can sleep: the ticks that can come, with no call between, before one brings news.
-use Rattle.laws.specs.Usual.{◌≡◌, Bool, true, false, cond, not, ◌&&◌, ◌||◌, ℕ, ◌-◌, ◌<◌, min, eqb, ltb}
+use Rattle.std.specs.Prelude.{◌≡◌, ◌&&◌, ◌||◌, ◌-◌, ◌<◌}
+use Rattle.laws.specs.Usual.{Bool, true, false, cond, not, ℕ, min, eqb, ltb}
 use Rattle.members.specs.Members.{entry_of, next_after}
 use Rattle.station.specs.Rules.Answers.{phase_number}
 use Rattle.station.specs.Rules.Asking.{due_in}

@@ -1,19 +1,21 @@
 // The units of time. Each wraps its number, so that none can be taken for another.
+#![tactic(auto)]
+
 ghost use Rattle.std.specs.Prelude.{◌≡◌};
 ghost use Rattle.units.specs.Time.{as_wait, in_ticks};
 
 // A number of ticks of 100 microseconds.
 #[repr(C)]
-#[derive(Drop)]
+#[derive(Clone, Copy)]
 pub struct Ticks(pub u32);
 
 // A number of milliseconds: a watch time, as wide as its field of a frame.
 #[repr(C)]
-#[derive(Drop)]
+#[derive(Clone, Copy)]
 pub struct Milliseconds(pub u8);
 
 // A number of milliseconds that can be greater than any watch time: a wait.
-#[derive(Drop)]
+#[derive(Clone, Copy)]
 pub struct Wait(pub u16);
 
 pub fn as_wait(watch: Milliseconds) -> Wait

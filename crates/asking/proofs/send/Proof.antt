@@ -1,11 +1,11 @@
 -- `asking::send` meets its contract.
-use Rattle.laws.specs.Usual.{◌≡◌, refl, sym, ap, subst, ◌∙◌, false≢true, List, [], ℕ, arith, length, drop, needs}
+use Rattle.std.specs.Prelude.{◌≡◌}
+use Rattle.laws.specs.Usual.{refl, sym, ap, subst, ◌∙◌, false≢true, List, [], ℕ, arith, length, drop, needs}
 use Rattle.asking_bare.specs.Bare.{no_data}
 use Rattle.block.specs.Blocks.{start_of}
 use Rattle.laws.specs.Tests.{second}
 use Rattle.frame_reading.specs.Reading.{data_size}
-use Rattle.station.specs.Rules.Asking.{is_placed, due_in}
-use Rattle.station.specs.Rules.Asking.{next_block, due_fields, turn_after, sent_in}
+use Rattle.station.specs.Rules.Asking.{is_placed, due_in, next_block, due_fields, turn_after, sent_in}
 use Rattle.station.specs.Rules.State.{holds}
 use Rattle.frame.specs.declared.Fields.{Fields}
 use Rattle.station.specs.declared.Phase.{Phase}
@@ -13,8 +13,8 @@ use Rattle.station.specs.declared.Station.{Station}
 use Rattle.station.specs.declared.Asked.{Asked}
 use Rattle.frame_writing.specs.Writing.{whole_length, output_of}
 use Rattle.asking.proofs.send.Statement.{statement}
-use Rattle.asking.proofs.send.Tie as tie
 use Rattle.asking.proofs.Lent.{lent}
+use Rattle.asking.proofs.send.Tie as tie
 
 module _ (station : Station) (memory turn output : List ℕ) where
   -- what a frame that is due in a phase leaves

@@ -1,5 +1,6 @@
 -- `asking_bare::write` meets its contract.
-use Rattle.laws.specs.Usual.{◌≡◌, sym, ◌∙◌, List, ℕ, ◌≤◌, arith, length, needs}
+use Rattle.std.specs.Prelude.{◌≡◌, ◌≤◌}
+use Rattle.laws.specs.Usual.{sym, ◌∙◌, List, ℕ, arith, length, needs}
 use borrow.Author.Tests.{le-leb}
 use Rattle.station.specs.Types.{Fields, Refusal}
 use Rattle.frame_reading.specs.Reading.{data_size}

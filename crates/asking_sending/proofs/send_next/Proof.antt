@@ -1,5 +1,6 @@
 -- `asking_sending::send_next` meets its contract.
-use Rattle.laws.specs.Usual.{◌≡◌, sym, ap, ap₂, ◌∙◌, List, ℕ, ◌+◌, ◌*◌, arith, drop, needs}
+use Rattle.std.specs.Prelude.{◌≡◌, ◌+◌, ◌*◌}
+use Rattle.laws.specs.Usual.{sym, ap, ap₂, ◌∙◌, List, ℕ, arith, drop, needs}
 use lib.ListN.{length-drop}
 use Rattle.asking_placing.specs.Placed.{placed}
 use Rattle.block.specs.Blocks.{start_of}
@@ -7,7 +8,7 @@ use Rattle.block.specs.Cut.{at_most}
 use Rattle.frame.specs.declared.Fields.{Fields}
 use Rattle.laws.specs.Lists.{to_end}
 use Rattle.frame_reading.specs.Reading.{data_size}
-use Rattle.frame_round_trip.specs.SentBack.{block_fixed, block_size}
+use Rattle.frame_round_trip.proofs.SentBack.{block_fixed, block_size}
 use Rattle.frame_writing.specs.Writing.{fixed, whole_length, output_of}
 use Rattle.asking_sending.proofs.send_next.Statement.{statement}
 use Rattle.asking_sending.proofs.send_next.Tie as tie

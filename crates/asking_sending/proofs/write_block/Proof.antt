@@ -1,5 +1,6 @@
 -- `asking_sending::write_block` meets its contract.
-use Rattle.laws.specs.Usual.{◌≡◌, sym, ap, ap₂, ◌∙◌, List, ℕ, ◌+◌, ◌-◌, take, needs}
+use Rattle.std.specs.Prelude.{◌≡◌, ◌+◌, ◌-◌}
+use Rattle.laws.specs.Usual.{sym, ap, ap₂, ◌∙◌, List, ℕ, take, needs}
 use native.Mathlib.Nat.{sub-zero}
 use Rattle.copying.specs.Pasted.{pasted}
 use Rattle.frame.specs.declared.Fields.{Fields}

@@ -1,5 +1,6 @@
 -- `boundary_asking::ask` meets its contract.
-use Rattle.laws.specs.Usual.{◌≡◌, refl, sym, ap, ap₂, ◌∙◌, false, ◌&&◌, length, eqb, leb, needs}
+use Rattle.std.specs.Prelude.{◌≡◌, ◌&&◌}
+use Rattle.laws.specs.Usual.{refl, sym, ap, ap₂, ◌∙◌, false, length, eqb, leb, needs}
 use borrow.Author.Tests.{leb-true, not-true, not-false}
 use Rattle.boundary_answers.specs.Numbers.{refused_answer}
 use Rattle.boundary_asking.specs.Carried.{carried, carried_known}

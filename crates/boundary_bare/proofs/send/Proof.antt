@@ -1,5 +1,6 @@
 -- `boundary_bare::send` meets its contract.
-use Rattle.laws.specs.Usual.{◌≡◌, sym, ap, ◌∙◌, Bool, true, false, cond, [], needs}
+use Rattle.std.specs.Prelude.{◌≡◌}
+use Rattle.laws.specs.Usual.{sym, ap, ◌∙◌, Bool, true, false, cond, [], needs}
 use Rattle.boundary_answers.specs.Numbers.{frame_answer}
 use Rattle.boundary_core.specs.Crossing.{core_of}
 use Rattle.boundary_lists.specs.Lists.{members_in}

@@ -1,5 +1,6 @@
 -- `boundary_calm::counts` meets its contract.
-use Rattle.laws.specs.Usual.{sym, ap, ◌∙◌, Bool, ◌||◌}
+use Rattle.std.specs.Prelude.{◌||◌}
+use Rattle.laws.specs.Usual.{sym, ap, ◌∙◌, Bool}
 use Rattle.boundary_waiting.specs.Waiting.{is_waiting}
 use Rattle.boundary_calm.proofs.counts.Statement.{statement}
 use Rattle.boundary_calm.proofs.counts.Tie as tie

@@ -1,5 +1,6 @@
 -- `boundary_hearing::hear_barred` meets its contract.
-use Rattle.laws.specs.Usual.{◌≡◌, refl, sym, ap, ◌∙◌, true}
+use Rattle.std.specs.Prelude.{◌≡◌}
+use Rattle.laws.specs.Usual.{refl, sym, ap, ◌∙◌, true}
 use borrow.Author.Tests.{not-true, not-false}
 use Rattle.boundary_core.specs.Crossing.{core_of, station_of}
 use Rattle.boundary_core.specs.declared.Core.{Core}

@@ -1,5 +1,6 @@
 -- `boundary_hearing::hear_read` meets its contract.
-use Rattle.laws.specs.Usual.{refl, sym, ap, ◌∙◌, Bool, not, ◌&&◌, length, needs}
+use Rattle.std.specs.Prelude.{◌&&◌}
+use Rattle.laws.specs.Usual.{refl, sym, ap, ◌∙◌, Bool, not, length, needs}
 use borrow.Author.Tests.{not-true}
 use Rattle.boundary_core.specs.Crossing.{station_of}
 use Rattle.boundary_core.specs.declared.Core.{Core}
@@ -10,7 +11,7 @@ use Rattle.boundary_refused.specs.Leaves.{heard_leaves}
 use Rattle.boundary_refused.specs.Taken.{is_taken_by, body_refused}
 use Rattle.boundary_refused.specs.Unheard.{read_on}
 use Rattle.boundary_told.specs.Routes.{told_header, told_unread, body_unread}
-use Rattle.frame_round_trip.specs.Accepted.{bodied}
+use Rattle.frame_round_trip.proofs.Accepted.{bodied}
 use Rattle.laws.specs.Tests.{first, second}
 use Rattle.station.specs.Rules.Hearing.{lent_right, hear_of}
 use Rattle.boundary_hearing.proofs.hear_read.Statement.{statement}

@@ -1,5 +1,6 @@
 -- `boundary_in_place::hear` meets its contract.
-use Rattle.laws.specs.Usual.{◌≡◌, sym, ap, ◌∙◌, Bool, true, false, not, ◌||◌, ℕ, ◌<◌, arith, get_or, eqb, needs}
+use Rattle.std.specs.Prelude.{◌≡◌, ◌||◌, ◌<◌}
+use Rattle.laws.specs.Usual.{sym, ap, ◌∙◌, Bool, true, false, not, ℕ, arith, get_or, eqb, needs}
 use Rattle.frame.specs.Codes.{is_token}
 use Rattle.hearing_token.specs.Parts.{outcome_by}
 use Rattle.boundary_lists.specs.Laws.{listed_in, cleared_in}

@@ -1,5 +1,6 @@
 -- `boundary_keeping::keep` meets its contract.
-use Rattle.laws.specs.Usual.{◌≤◌, arith, ap, ◌∙◌, needs}
+use Rattle.std.specs.Prelude.{◌≤◌}
+use Rattle.laws.specs.Usual.{arith, ap, ◌∙◌, needs}
 use Rattle.boundary_core.specs.declared.Core.{Core}
 use Rattle.boundary_places.specs.Laws.{Fits, kept_core}
 use Rattle.boundary_places.specs.Places.{core_in, kept}

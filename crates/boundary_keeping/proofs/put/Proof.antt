@@ -1,5 +1,6 @@
 -- `boundary_keeping::put` meets its contract.
-use Rattle.laws.specs.Usual.{refl, ap₂, ◌∷◌}
+use Rattle.std.specs.Prelude.{◌∷◌}
+use Rattle.laws.specs.Usual.{refl, ap₂}
 use Rattle.boundary_places.specs.Places.{kept}
 use borrow.Author.Rules.{rules}
 use Rattle.boundary_keeping.proofs.put.Statement.{statement}

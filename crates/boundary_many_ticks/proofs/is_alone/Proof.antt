@@ -1,6 +1,7 @@
 -- `boundary_many_ticks::is_alone` meets its contract.
 use borrow.Author.Tests.{not-true, not-false}
-use Rattle.laws.specs.Usual.{◌&&◌, eqb}
+use Rattle.std.specs.Prelude.{◌&&◌}
+use Rattle.laws.specs.Usual.{eqb}
 use Rattle.boundary_many_ticks.proofs.is_alone.Statement.{statement}
 use Rattle.boundary_many_ticks.proofs.is_alone.Tie as tie
 

@@ -1,5 +1,6 @@
 -- `boundary_many_ticks::jump` meets its contract.
-use Rattle.laws.specs.Usual.{[], ◌<◌, arith}
+use Rattle.std.specs.Prelude.{◌<◌}
+use Rattle.laws.specs.Usual.{[], arith}
 use Rattle.boundary_many_ticks.specs.Jump.{jumps_in}
 use Rattle.boundary_many_ticks.proofs.jump.Statement.{statement}
 use Rattle.boundary_many_ticks.proofs.jump.Tie as tie

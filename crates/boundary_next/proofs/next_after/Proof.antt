@@ -1,5 +1,6 @@
 -- `boundary_next::next_after` meets its contract.
-use Rattle.laws.specs.Usual.{sym, ◌∙◌, ◌+◌, needs}
+use Rattle.std.specs.Prelude.{◌+◌}
+use Rattle.laws.specs.Usual.{sym, ◌∙◌, needs}
 use borrow.Author.Tests.{lt-ltb, le-ltb}
 use Rattle.members.specs.Members.{smallest}
 use Rattle.members_searching.specs.Found.{next_found, smallest_found}

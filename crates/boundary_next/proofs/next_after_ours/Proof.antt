@@ -1,5 +1,6 @@
 -- `boundary_next::next_after_ours` meets its contract.
-use Rattle.laws.specs.Usual.{sym, ◌∙◌, ◌+◌, arith}
+use Rattle.std.specs.Prelude.{◌+◌}
+use Rattle.laws.specs.Usual.{sym, ◌∙◌, arith}
 use borrow.Author.Tests.{le-ltb}
 use Rattle.members.specs.Members.{smallest}
 use Rattle.members_searching.specs.Found.{next_found, smallest_found}

@@ -1,5 +1,6 @@
 -- `boundary_running::stop` meets its contract.
-use Rattle.laws.specs.Usual.{◌≡◌, sym, ap, ◌∙◌, true, false}
+use Rattle.std.specs.Prelude.{◌≡◌}
+use Rattle.laws.specs.Usual.{sym, ap, ◌∙◌, true, false}
 use Rattle.boundary_answers.specs.Numbers.{switched_answer}
 use Rattle.boundary_core.specs.Crossing.{phase_of, core_of, station_in}
 use Rattle.frame.specs.declared.Refusal.TheVariants.{NotDue}

@@ -1,17 +1,17 @@
 -- `boundary_sending::ask` meets its contract.
-use Rattle.boundary_holder.specs.Held.{sent_core}
+use Rattle.boundary_holder.specs.Held.{sent_core, held_placed, held_asked}
 use Rattle.boundary_answers.specs.Numbers.{frame_answer, asked_answer}
 use Rattle.boundary_core.specs.Crossing.{core_of, station_of}
 use Rattle.boundary_told.specs.Routes.{told_asked}
 use Rattle.frame_writing.specs.Writing.{whole_length, output_of}
 use Rattle.station.specs.Rules.Asking.{next_fields, turn_for, Asking, ask_of}
 use Rattle.block.specs.Blocks.{start_of}
-use Rattle.laws.specs.Usual.{sym, ap, ◌∙◌, ◌&&◌, ℕ, ◌+◌, length, drop, eqb, leb, needs}
+use Rattle.std.specs.Prelude.{◌&&◌, ◌+◌}
+use Rattle.laws.specs.Usual.{sym, ap, ◌∙◌, ℕ, length, drop, eqb, leb, needs}
 use borrow.Author.Tests.{eqb-true, leb-true}
 use Rattle.laws.specs.Tests.{first, second}
 use Rattle.boundary_lists.specs.Laws.{next_in_lem}
 use Rattle.boundary_lists.specs.Lists.{members_in}
-use Rattle.boundary_holder.specs.Held.{held_placed, held_asked}
 use Rattle.boundary_sending.proofs.ask.Statement.{statement}
 use Rattle.boundary_sending.proofs.ask.Tie as tie
 

@@ -1,5 +1,6 @@
 -- `boundary_watch::watch_time` meets its contract.
-use Rattle.laws.specs.Usual.{sym, ap, ◌∙◌, cond, not, ◌||◌, ◌<◌, arith, eqb, needs}
+use Rattle.std.specs.Prelude.{◌||◌, ◌<◌}
+use Rattle.laws.specs.Usual.{sym, ap, ◌∙◌, cond, not, arith, eqb, needs}
 use Rattle.boundary_lists.specs.Laws.{entry_in_lem}
 use Rattle.members.specs.declared.Entry.{Entry}
 use Rattle.station.specs.Rules.Waits.{counts_as}

@@ -1,10 +1,11 @@
 -- `decode::decode_all` meets its contract.
-use Rattle.laws.specs.Usual.{◌≡◌, refl, sym, ap, ◌∙◌, List, [], ◌++◌, ℕ, arith, length, take}
+use Rattle.std.specs.Prelude.{◌≡◌, ◌++◌}
+use Rattle.laws.specs.Usual.{refl, sym, ap, ◌∙◌, List, [], ℕ, arith, length, take}
 use borrow.Author.Tests.{ltb-true}
 use Rattle.decode_line.specs.Gathering.{fresh}
 use Rattle.decode_line.specs.declared.Gathered.{Gathered}
 use Rattle.text_feeding.specs.Feeding.{fed_all}
-use Rattle.text_feeding.specs.Fed.{fed_parts}
+use Rattle.text_feeding.proofs.Fed.{fed_parts}
 use Rattle.decode.specs.Capture.{Carried, carried, decode}
 use Rattle.decode.proofs.decode_all.Statement.{statement}
 use Rattle.decode.proofs.decode_all.Tie as tie

@@ -1,8 +1,8 @@
 -- `decode::decode_next` meets its contract.
 use Rattle.laws.specs.Usual.{sym, ◌∙◌, replicate, needs}
 use Rattle.text_feeding.specs.Feeding.{between}
-use Rattle.text_feeding.specs.Front.{front_within, front_read}
-use Rattle.text_feeding.specs.Scan.{ended_onward, open_onward}
+use Rattle.text_feeding.proofs.Front.{front_within, front_read}
+use Rattle.text_feeding.proofs.Scan.{ended_onward, open_onward}
 use Rattle.decode.specs.Capture.{answers}
 use Rattle.decode.proofs.decode_next.Statement.{statement}
 use Rattle.decode.proofs.decode_next.Tie as tie

@@ -1,9 +1,10 @@
 -- `decode::decode_part` meets its contract.
-use Rattle.laws.specs.Usual.{◌≡◌, refl, sym, ap, ◌∙◌, false, ℕ, ◌-◌, ◌≤◌, arith, length, take, drop}
+use Rattle.std.specs.Prelude.{◌≡◌, ◌-◌, ◌≤◌}
+use Rattle.laws.specs.Usual.{refl, sym, ap, ◌∙◌, false, ℕ, arith, length, take, drop}
 use mathlib.Core.Bool.{true≢false}
 use borrow.Author.Tests.{ltb-true, ltb-false}
 use Rattle.text_feeding.specs.Feeding.{fed_all, Onward}
-use Rattle.text_feeding.specs.Scan.{taken_on, onward_all}
+use Rattle.text_feeding.proofs.Scan.{taken_on, onward_all}
 use Rattle.decode.specs.Capture.{carried, decode}
 use Rattle.decode.proofs.decode_part.Statement.{statement}
 use Rattle.decode.proofs.decode_part.Tie as tie

@@ -1,7 +1,7 @@
 -- `decode::decode_some` meets its contract.
 use Rattle.laws.specs.Usual.{ap, ◌∙◌, length, needs}
 use Rattle.text_feeding.specs.Feeding.{fed_all}
-use Rattle.text_feeding.specs.Scan.{read_arrived, read_taken}
+use Rattle.text_feeding.proofs.Scan.{read_arrived, read_taken}
 use Rattle.decode.specs.Capture.{carried, decode}
 use Rattle.decode.proofs.decode_some.Statement.{statement}
 use Rattle.decode.proofs.decode_some.Tie as tie

@@ -1,6 +1,6 @@
 -- `decode::main` meets its contract.
 use Rattle.laws.specs.Usual.{replicate, needs}
-use Rattle.text_feeding.specs.Front.{front_within, front_read}
+use Rattle.text_feeding.proofs.Front.{front_within, front_read}
 use Rattle.decode.specs.Capture.{answer_to_rest}
 use Rattle.decode.proofs.main.Statement.{statement}
 use Rattle.decode.proofs.main.Tie as tie

@@ -1,5 +1,6 @@
 -- `decode::put_rest` meets its contract.
-use Rattle.laws.specs.Usual.{◌≡◌, refl, sym, ◌∙◌, true, false}
+use Rattle.std.specs.Prelude.{◌≡◌}
+use Rattle.laws.specs.Usual.{refl, sym, ◌∙◌, true, false}
 use Rattle.copying.specs.Laws.{paste_nothing}
 use Rattle.decode_line.specs.Gathering.{begun}
 use Rattle.decode.proofs.put_rest.Statement.{statement}

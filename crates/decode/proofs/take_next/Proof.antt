@@ -1,12 +1,13 @@
 -- `decode::take_next` meets its contract.
-use Rattle.laws.specs.Usual.{◌≡◌, sym, ap, ◌∙◌, List, ℕ, length, drop, needs}
+use Rattle.std.specs.Prelude.{◌≡◌}
+use Rattle.laws.specs.Usual.{sym, ap, ◌∙◌, List, ℕ, length, drop, needs}
 use Rattle.decode_answers.specs.Answers.{text_of}
 use Rattle.copying.specs.Laws.{paste_nothing}
 use Rattle.copying.specs.Pasted.{pasted}
 use Rattle.decode_line.specs.Gathering.{scanned, buffer_scanned}
 use Rattle.decode_line.specs.declared.Gathered.{Gathered}
 use Rattle.decode_line.specs.declared.Scanned.{Scanned}
-use Rattle.text_feeding.specs.Scan.{Scan, ended_taken, ended_said, open_taken, open_said}
+use Rattle.text_feeding.proofs.Scan.{ended_taken, ended_said, open_taken, open_said, Scan}
 use Rattle.decode.specs.Capture.{carried, decode}
 use Rattle.decode.specs.Scanned.{scan_taken}
 use Rattle.decode.proofs.take_next.Statement.{statement}

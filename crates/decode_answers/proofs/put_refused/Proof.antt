@@ -1,5 +1,6 @@
 -- `decode_answers::put_refused` meets its contract.
-use Rattle.laws.specs.Usual.{ap, ◌∙◌, [], ◌∷◌, ℕ, length, needs}
+use Rattle.std.specs.Prelude.{◌∷◌}
+use Rattle.laws.specs.Usual.{ap, ◌∙◌, [], ℕ, length, needs}
 use Rattle.copying.specs.Pasted.{pasted}
 use Rattle.text.specs.Lines.{line_of}
 use Rattle.decode_answers.specs.Answers.{refused_word}

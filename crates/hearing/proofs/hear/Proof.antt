@@ -1,5 +1,6 @@
 -- `hearing::hear` meets its contract.
-use Rattle.laws.specs.Usual.{◌≡◌, refl, sym, ◌∙◌, Bool, true, false, not, ◌&&◌, ◌||◌, length, eqb, needs}
+use Rattle.std.specs.Prelude.{◌≡◌, ◌&&◌, ◌||◌}
+use Rattle.laws.specs.Usual.{refl, sym, ◌∙◌, Bool, true, false, not, length, eqb, needs}
 use Rattle.laws.specs.Tests.{first}
 use Rattle.hearing.proofs.hear.Statement.{statement}
 use Rattle.hearing.proofs.hear.Tie as tie

@@ -1,5 +1,6 @@
 -- `hearing_blocks::is_repeat` meets its contract.
-use Rattle.laws.specs.Usual.{◌≡◌, ap, ◌∙◌, ℕ, ◌+◌, ◌-◌, arith, length, take, drop, needs}
+use Rattle.std.specs.Prelude.{◌≡◌, ◌+◌, ◌-◌}
+use Rattle.laws.specs.Usual.{ap, ◌∙◌, ℕ, arith, length, take, drop, needs}
 use Rattle.comparing.specs.Same.{same}
 use Rattle.hearing_blocks.proofs.is_repeat.Statement.{statement}
 use Rattle.hearing_blocks.proofs.is_repeat.Tie as tie

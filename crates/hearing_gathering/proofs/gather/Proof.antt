@@ -1,5 +1,6 @@
 -- `hearing_gathering::gather` meets its contract.
-use Rattle.laws.specs.Usual.{◌≡◌, refl, sym, ap, ◌∙◌, Bool, true, false, cond, not, ◌&&◌, List, ℕ, arith, eqb, needs}
+use Rattle.std.specs.Prelude.{◌≡◌, ◌&&◌}
+use Rattle.laws.specs.Usual.{refl, sym, ap, ◌∙◌, Bool, true, false, cond, not, List, ℕ, arith, eqb, needs}
 use borrow.Author.Tests.{eqb-true, not-false}
 use Rattle.area.specs.Areas.{in_range}
 use Rattle.block.specs.Blocks.{start_of}

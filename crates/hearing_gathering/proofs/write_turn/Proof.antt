@@ -1,5 +1,6 @@
 -- `hearing_gathering::write_turn` meets its contract.
-use Rattle.laws.specs.Usual.{◌≡◌, ap, ◌∙◌, true, List, ℕ, ◌+◌, ◌-◌, ◌*◌, ◌≤◌, arith, length, take, drop, needs}
+use Rattle.std.specs.Prelude.{◌≡◌, ◌+◌, ◌-◌, ◌*◌, ◌≤◌}
+use Rattle.laws.specs.Usual.{ap, ◌∙◌, true, List, ℕ, arith, length, take, drop, needs}
 use lib.ListN.{length-take}
 use borrow.Author.Tests.{leb-true}
 use Rattle.area.specs.Areas.{in_area, in_range, span_of}

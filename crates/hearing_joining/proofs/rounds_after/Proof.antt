@@ -1,5 +1,6 @@
 -- `hearing_joining::rounds_after` meets its contract.
-use Rattle.laws.specs.Usual.{◌≡◌, sym, ◌∙◌, ◌+◌, min, arith, needs}
+use Rattle.std.specs.Prelude.{◌≡◌, ◌+◌}
+use Rattle.laws.specs.Usual.{sym, ◌∙◌, min, arith, needs}
 use borrow.Author.Tests.{not-true, not-false}
 use Rattle.hearing_joining.proofs.rounds_after.Statement.{statement}
 use Rattle.hearing_joining.proofs.rounds_after.Tie as tie

@@ -1,5 +1,6 @@
 -- `hearing_token::view_after` meets its contract.
-use Rattle.laws.specs.Usual.{◌≡◌, min, arith}
+use Rattle.std.specs.Prelude.{◌≡◌}
+use Rattle.laws.specs.Usual.{min, arith}
 use borrow.Author.Tests.{eq-eqb, ne_eqb}
 use Rattle.hearing_token.proofs.view_after.Statement.{statement}
 use Rattle.hearing_token.proofs.view_after.Tie as tie

@@ -1,5 +1,6 @@
 -- `message_asked_letter::is_going` meets its contract.
-use Rattle.laws.specs.Usual.{◌≡◌, sym, ap, ap₂, ◌∙◌, Bool, false, ◌&&◌, eqb}
+use Rattle.std.specs.Prelude.{◌≡◌, ◌&&◌}
+use Rattle.laws.specs.Usual.{sym, ap, ap₂, ◌∙◌, Bool, false, eqb}
 use borrow.Author.Tests.{not-true}
 use Rattle.boundary_core.specs.Crossing.{station_of}
 use Rattle.boundary_core.specs.declared.Core.{Core}

@@ -1,5 +1,6 @@
 -- `message_asked_letter::send` meets its contract.
-use Rattle.laws.specs.Usual.{◌≡◌, ap, ap₂, ◌∙◌, List, [], ◌≤◌, arith, needs}
+use Rattle.std.specs.Prelude.{◌≡◌, ◌≤◌}
+use Rattle.laws.specs.Usual.{ap, ap₂, ◌∙◌, List, [], arith, needs}
 use Rattle.boundary_core.specs.Crossing.{station_of}
 use Rattle.boundary_core.specs.declared.Core.{Core}
 use Rattle.boundary_places.specs.Places.{core_in}

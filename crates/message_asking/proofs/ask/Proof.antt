@@ -1,5 +1,6 @@
 -- `message_asking::ask` meets its contract.
-use Rattle.laws.specs.Usual.{sym, ap₂, ◌∙◌, ◌&&◌, [], length, eqb, leb, needs}
+use Rattle.std.specs.Prelude.{◌&&◌}
+use Rattle.laws.specs.Usual.{sym, ap₂, ◌∙◌, [], length, eqb, leb, needs}
 use borrow.Author.Tests.{eq-eqb, ne_eqb, leb-true}
 use Rattle.boundary_lists.specs.Lists.{members_in}
 use Rattle.laws.specs.Tests.{first, second}

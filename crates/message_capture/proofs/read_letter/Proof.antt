@@ -1,5 +1,6 @@
 -- `message_capture::read_letter` meets its contract.
-use Rattle.laws.specs.Usual.{◌≡◌, sym, ap, ap₂, ◌∙◌, true, false, length, needs}
+use Rattle.std.specs.Prelude.{◌≡◌}
+use Rattle.laws.specs.Usual.{sym, ap, ap₂, ◌∙◌, true, false, length, needs}
 use borrow.Author.Tests.{not-true, not-false}
 use Rattle.message_frames.specs.Frames.{letter_in, addressed, measured}
 use Rattle.message_capture.specs.declared.Capture.TheVariants.{Message}

@@ -1,5 +1,6 @@
 -- `message_carried::carry_oldest` meets its contract.
-use Rattle.laws.specs.Usual.{sym, ap, ◌∙◌, List, ℕ, ◌+◌, drop, needs}
+use Rattle.std.specs.Prelude.{◌+◌}
+use Rattle.laws.specs.Usual.{sym, ap, ◌∙◌, List, ℕ, drop, needs}
 use borrow.Author.Tests.{not-true, not-false, lt-leb, le-leb}
 use Rattle.message_places.specs.Owed.{owed_in}
 use Rattle.message_rules.specs.Rules.Confirming.{carried_in}

@@ -1,5 +1,6 @@
 -- `message_carrying::mark` meets its contract.
-use Rattle.laws.specs.Usual.{◌≡◌, ap, ◌∙◌, List, ℕ, ◌+◌, ◌<◌, arith, length, set, needs}
+use Rattle.std.specs.Prelude.{◌≡◌, ◌+◌, ◌<◌}
+use Rattle.laws.specs.Usual.{ap, ◌∙◌, List, ℕ, arith, length, set, needs}
 use Rattle.copying.specs.Laws.{length_pasted, paste_one}
 use Rattle.copying.specs.Pasted.{pasted}
 use Rattle.frame.specs.Positions.{TFL}

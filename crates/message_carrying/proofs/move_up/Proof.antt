@@ -1,5 +1,6 @@
 -- `message_carrying::move_up` meets its contract.
-use Rattle.laws.specs.Usual.{◌≡◌, sym, ap, ◌∙◌, refl, List, ℕ, ◌+◌, ◌-◌, ◌≤◌, arith, length, get_or, take, drop, set}
+use Rattle.std.specs.Prelude.{◌≡◌, ◌+◌, ◌-◌, ◌≤◌}
+use Rattle.laws.specs.Usual.{sym, ap, ◌∙◌, refl, List, ℕ, arith, length, get_or, take, drop, set}
 use lib.ListN.{length-set, drop_of_length-le}
 use lib.Seq.{length-take-le}
 use native.Mathlib.Nat.{le_refl}

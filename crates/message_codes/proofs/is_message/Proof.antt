@@ -1,5 +1,6 @@
 -- `message_codes::is_message` meets its contract.
-use Rattle.laws.specs.Usual.{◌≡◌, refl, Bool, true, false, ◌&&◌, ℕ, ◌≤◌, arith, leb}
+use Rattle.std.specs.Prelude.{◌≡◌, ◌&&◌, ◌≤◌}
+use Rattle.laws.specs.Usual.{refl, Bool, true, false, ℕ, arith, leb}
 use borrow.Author.Tests.{le-leb, leb-true}
 use Rattle.message.specs.Codes.{is_within}
 use Rattle.message_codes.proofs.is_message.Statement.{statement}

@@ -1,5 +1,6 @@
 -- `message_confirmations::confirms` meets its contract.
-use Rattle.laws.specs.Usual.{◌≡◌, refl, sym, ap, ◌∙◌, Bool, true, false, ◌&&◌, List, ℕ, ◌-◌, ◌<◌, ◌≤◌, arith, length, eqb, leb, needs}
+use Rattle.std.specs.Prelude.{◌≡◌, ◌&&◌, ◌-◌, ◌<◌, ◌≤◌}
+use Rattle.laws.specs.Usual.{refl, sym, ap, ◌∙◌, Bool, true, false, List, ℕ, arith, length, eqb, leb, needs}
 use borrow.Author.Tests.{not-true, not-false, lt-leb, le-leb}
 use Rattle.frame.specs.Octets.{octet_at, word_at}
 use Rattle.frame.specs.Positions.{BSIZE}

@@ -1,5 +1,6 @@
 -- `message_counting::ticked` meets its contract.
-use Rattle.laws.specs.Usual.{◌≡◌, ap, ℕ, ◌<◌, arith}
+use Rattle.std.specs.Prelude.{◌≡◌, ◌<◌}
+use Rattle.laws.specs.Usual.{ap, ℕ, arith}
 use Rattle.message_places.specs.Outgoing.{messages_of}
 use Rattle.message_quiet.specs.CountedLaws.{ticks_put_in}
 use Rattle.message_quiet.specs.Many.{ticked_for}

@@ -1,5 +1,6 @@
 -- `message_frames_heard::frame_turned` meets its contract.
-use Rattle.laws.specs.Usual.{◌≡◌, sym, ap, ◌∙◌, Bool, true, false, cond, ◌&&◌, arith, needs}
+use Rattle.std.specs.Prelude.{◌≡◌, ◌&&◌}
+use Rattle.laws.specs.Usual.{sym, ap, ◌∙◌, Bool, true, false, cond, arith, needs}
 use Rattle.frame.specs.Octets.{octet_at}
 use Rattle.frame.specs.Positions.{SNA}
 use Rattle.laws.specs.Tests.{second}

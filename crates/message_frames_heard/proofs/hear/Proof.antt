@@ -1,5 +1,6 @@
 -- `message_frames_heard::hear` meets its contract.
-use Rattle.laws.specs.Usual.{◌≡◌, sym, ap, ap₂, ◌∙◌, Bool, true, false, not, ◌&&◌, ℕ, eqb, needs}
+use Rattle.std.specs.Prelude.{◌≡◌, ◌&&◌}
+use Rattle.laws.specs.Usual.{sym, ap, ap₂, ◌∙◌, Bool, true, false, not, ℕ, eqb, needs}
 use Rattle.boundary_answers.specs.declared.Answer.{Answer}
 use Rattle.boundary_core.specs.Crossing.{phase_of, station_in}
 use Rattle.boundary_core.specs.declared.Core.{Core}

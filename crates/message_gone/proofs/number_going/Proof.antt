@@ -1,5 +1,6 @@
 -- `message_gone::number_going` meets its contract.
-use Rattle.laws.specs.Usual.{◌≡◌, sym, ◌∙◌, true, false}
+use Rattle.std.specs.Prelude.{◌≡◌}
+use Rattle.laws.specs.Usual.{sym, ◌∙◌, true, false}
 use Rattle.message_rules.specs.Rules.Again.{is_waiting}
 use Rattle.message_gone.proofs.number_going.Statement.{statement}
 use Rattle.message_gone.proofs.number_going.Tie as tie

@@ -1,5 +1,6 @@
 -- `message_hearing::hear` meets its contract.
-use Rattle.laws.specs.Usual.{◌≡◌, sym, ap, ◌∙◌, true, false, needs}
+use Rattle.std.specs.Prelude.{◌≡◌}
+use Rattle.laws.specs.Usual.{sym, ap, ◌∙◌, true, false, needs}
 use Rattle.boundary_answers.specs.declared.Answer.{Answer}
 use Rattle.boundary_core.specs.Crossing.{core_of, station_in}
 use Rattle.boundary_places.specs.Places.{core_in, kept}

@@ -1,5 +1,6 @@
 -- `message_judging::judge` meets its contract.
-use Rattle.laws.specs.Usual.{◌≡◌, ◌∙◌, Bool, true, false, not, ◌||◌, ℕ, eqb, arith}
+use Rattle.std.specs.Prelude.{◌≡◌, ◌||◌}
+use Rattle.laws.specs.Usual.{◌∙◌, Bool, true, false, not, ℕ, eqb, arith}
 use borrow.Author.Tests.{eq-eqb, ne_eqb}
 use Rattle.message.specs.declared.Letter.{Letter}
 use Rattle.message_judging.proofs.judge.Statement.{statement}

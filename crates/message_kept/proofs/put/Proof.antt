@@ -1,5 +1,6 @@
 -- `message_kept::put` meets its contract.
-use Rattle.laws.specs.Usual.{refl, ap₂, ◌∷◌}
+use Rattle.std.specs.Prelude.{◌∷◌}
+use Rattle.laws.specs.Usual.{refl, ap₂}
 use Rattle.message_places.specs.Places.{kept_outgoing}
 use borrow.Author.Rules.{rules}
 use Rattle.message_kept.proofs.put.Statement.{statement}

@@ -1,5 +1,6 @@
 -- `message_letter_tests::answer_to` meets its contract.
-use Rattle.laws.specs.Usual.{◌≡◌, sym, ap, ◌∙◌, Bool, true, false, not, ◌&&◌, needs}
+use Rattle.std.specs.Prelude.{◌≡◌, ◌&&◌}
+use Rattle.laws.specs.Usual.{sym, ap, ◌∙◌, Bool, true, false, not, needs}
 use borrow.Author.Tests.{not-true, not-false}
 use Rattle.boundary_core.specs.Crossing.{phase_of}
 use Rattle.station.specs.Rules.State.{is_off}

@@ -1,5 +1,6 @@
 -- `message_letter_tests::is_for_us` meets its contract.
-use Rattle.laws.specs.Usual.{ap₂, Bool, ◌&&◌, ◌||◌, eqb, needs}
+use Rattle.std.specs.Prelude.{◌&&◌, ◌||◌}
+use Rattle.laws.specs.Usual.{ap₂, Bool, eqb, needs}
 use Rattle.message_letter_tests.proofs.is_for_us.Statement.{statement}
 use Rattle.message_letter_tests.proofs.is_for_us.Tie as tie
 

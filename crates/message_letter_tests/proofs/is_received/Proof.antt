@@ -1,5 +1,6 @@
 -- `message_letter_tests::is_received` meets its contract.
-use Rattle.laws.specs.Usual.{ap₂, Bool, not, ◌&&◌, needs}
+use Rattle.std.specs.Prelude.{◌&&◌}
+use Rattle.laws.specs.Usual.{ap₂, Bool, not, needs}
 use Rattle.message_letter_tests.proofs.is_received.Statement.{statement}
 use Rattle.message_letter_tests.proofs.is_received.Tie as tie
 

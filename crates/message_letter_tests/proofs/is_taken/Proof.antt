@@ -1,5 +1,6 @@
 -- `message_letter_tests::is_taken` meets its contract.
-use Rattle.laws.specs.Usual.{ap, ◌∙◌, Bool, not, ◌&&◌, eqb, needs}
+use Rattle.std.specs.Prelude.{◌&&◌}
+use Rattle.laws.specs.Usual.{ap, ◌∙◌, Bool, not, eqb, needs}
 use Rattle.station.specs.Rules.State.{is_off}
 use Rattle.message_letter_tests.proofs.is_taken.Statement.{statement}
 use Rattle.message_letter_tests.proofs.is_taken.Tie as tie

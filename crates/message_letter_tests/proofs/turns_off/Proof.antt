@@ -1,5 +1,6 @@
 -- `message_letter_tests::turns_off` meets its contract.
-use Rattle.laws.specs.Usual.{ap₂, Bool, not, ◌&&◌, needs}
+use Rattle.std.specs.Prelude.{◌&&◌}
+use Rattle.laws.specs.Usual.{ap₂, Bool, not, needs}
 use Rattle.message_letter_tests.proofs.turns_off.Statement.{statement}
 use Rattle.message_letter_tests.proofs.turns_off.Tie as tie
 

@@ -1,5 +1,6 @@
 -- `message_letters::is_letter` meets its contract.
-use Rattle.laws.specs.Usual.{◌≡◌, sym, ap, ◌∙◌, Bool, true, ◌&&◌, length, eqb, needs}
+use Rattle.std.specs.Prelude.{◌≡◌, ◌&&◌}
+use Rattle.laws.specs.Usual.{sym, ap, ◌∙◌, Bool, true, length, eqb, needs}
 use borrow.Author.Tests.{not-true, not-false}
 use Rattle.area.specs.Areas.{memory_octets}
 use Rattle.frame.specs.Octets.{word_at}

@@ -1,7 +1,6 @@
 -- `message_letters_heard::deliver` meets its contract.
 use Rattle.laws.specs.Usual.{refl, sym, ap, ◌∙◌, needs}
 use Rattle.boundary_answers.specs.declared.Answer.{Answer}
-use Rattle.message.specs.declared.Received.TheVariants as received
 use Rattle.message_letter_tests.specs.Tests.{passed_by}
 use Rattle.message_owed.specs.Laws.{owed_same}
 use Rattle.message_places.specs.Owed.{owed_in}
@@ -12,6 +11,7 @@ use Rattle.message_sources.specs.Sources.{sources_in}
 use Rattle.message_letters_heard.specs.Heard.{delivered_by}
 use Rattle.message_letters_heard.specs.Laws.{received_by, passed_by_lem}
 use Rattle.message_letters_heard.proofs.deliver.Statement.{statement}
+use Rattle.message.specs.declared.Received.TheVariants as received
 use Rattle.message_letters_heard.proofs.deliver.Tie as tie
 
 returns : tie.Need-returns

@@ -1,5 +1,6 @@
 -- `message_letters_heard::hear_letter` meets its contract.
-use Rattle.laws.specs.Usual.{◌≡◌, refl, sym, ap, ap₂, ◌∙◌, true, List, ◌<◌, arith, length, needs}
+use Rattle.std.specs.Prelude.{◌≡◌, ◌<◌}
+use Rattle.laws.specs.Usual.{refl, sym, ap, ap₂, ◌∙◌, true, List, arith, length, needs}
 use Rattle.boundary_answers.specs.declared.Answer.{Answer}
 use Rattle.boundary_core.specs.Crossing.{core_of, station_of}
 use Rattle.boundary_core.specs.declared.Core.{Core}
@@ -7,10 +8,8 @@ use Rattle.boundary_lists.specs.Laws.{listed_in}
 use Rattle.boundary_lists.specs.Lists.{members_in}
 use Rattle.boundary_places.specs.Laws.{core_in_back, left_alone}
 use Rattle.boundary_places.specs.Places.{core_in}
-use Rattle.frame.specs.declared.Refusal.TheVariants as refusals
 use Rattle.message.specs.declared.Confirmation.{Confirmation}
 use Rattle.message.specs.declared.Letter.{Letter}
-use Rattle.message.specs.declared.Received.TheVariants as received
 use Rattle.message_frames.specs.Frames.{letter_in}
 use Rattle.message_letter_tests.specs.Laws.{turned_off}
 use Rattle.message_letter_tests.specs.Tests.{turns_off_by}
@@ -22,10 +21,12 @@ use Rattle.message_rules.specs.Rules.Hearing.{letter_heard}
 use Rattle.message_rules.specs.Rules.State.{no_message, no_messages, Sources}
 use Rattle.message_sources.specs.Sources.{sources_in}
 use Rattle.station.specs.Rules.Starting.{stop_of}
-use Rattle.station.specs.declared.Heard.TheVariants as heard
 use Rattle.message_letters_heard.specs.Heard.{delivered_by}
 use Rattle.message_letters_heard.specs.Laws.{delivered_heard, known_after, meets}
 use Rattle.message_letters_heard.proofs.hear_letter.Statement.{statement}
+use Rattle.frame.specs.declared.Refusal.TheVariants as refusals
+use Rattle.message.specs.declared.Received.TheVariants as received
+use Rattle.station.specs.declared.Heard.TheVariants as heard
 use Rattle.message_letters_heard.proofs.hear_letter.Tie as tie
 
 returns : tie.Need-returns

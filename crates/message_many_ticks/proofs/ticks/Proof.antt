@@ -1,5 +1,6 @@
 -- `message_many_ticks::ticks` meets its contract.
-use Rattle.laws.specs.Usual.{◌≡◌, refl, ap₂, ◌∙◌, List, needs}
+use Rattle.std.specs.Prelude.{◌≡◌}
+use Rattle.laws.specs.Usual.{refl, ap₂, ◌∙◌, List, needs}
 use Rattle.boundary_answers.specs.Numbers.{ticked_answer}
 use Rattle.boundary_core.specs.Crossing.{station_in}
 use Rattle.boundary_core.specs.declared.Core.{Core}
@@ -9,7 +10,6 @@ use Rattle.message.specs.declared.Confirmation.{Confirmation}
 use Rattle.message_places.specs.Outgoing.{messages_of}
 use Rattle.message_places.specs.Places.{outgoing_in}
 use Rattle.message_places.specs.declared.Outgoing.{Outgoing}
-use Rattle.message_quiet.specs.Many as both
 use Rattle.message_quiet.specs.Many.{after_ticks}
 use Rattle.message_rules.specs.Rules.State.{Messages, Sources}
 use Rattle.message_turns.specs.Kept.{makes}
@@ -17,6 +17,7 @@ use Rattle.station.specs.declared.Station.{Station}
 use Rattle.ticking_quiet.specs.Many.{ticks_of}
 use Rattle.message_many_ticks.specs.Ended.{ring_ended, side_ended}
 use Rattle.message_many_ticks.proofs.ticks.Statement.{statement}
+use Rattle.message_quiet.specs.Many as both
 use Rattle.message_many_ticks.proofs.ticks.Tie as tie
 
 returns : tie.Need-returns

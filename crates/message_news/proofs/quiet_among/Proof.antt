@@ -1,5 +1,6 @@
 -- `message_news::quiet_among` meets its contract.
-use Rattle.laws.specs.Usual.{refl, true, false, ◌<◌, arith, needs}
+use Rattle.std.specs.Prelude.{◌<◌}
+use Rattle.laws.specs.Usual.{refl, true, false, arith, needs}
 use Rattle.message_news.specs.Told.{quiet_told}
 use Rattle.message_news.proofs.quiet_among.Statement.{statement}
 use Rattle.message_news.proofs.quiet_among.Tie as tie

@@ -1,5 +1,6 @@
 -- `message_owed::add` meets its contract.
-use Rattle.laws.specs.Usual.{refl, sym, ap, ◌∙◌, ℕ, ◌+◌, ◌*◌, ◌<◌, ◌≤◌, arith, length, get_or, set, needs}
+use Rattle.std.specs.Prelude.{◌+◌, ◌*◌, ◌<◌, ◌≤◌}
+use Rattle.laws.specs.Usual.{refl, sym, ap, ◌∙◌, ℕ, arith, length, get_or, set, needs}
 use lib.ListN.{length-set}
 use Rattle.message_places.specs.Owed.{owed_in, kept_owed}
 use Rattle.message_owed.specs.Laws.{length_owed, owed_same, free_new, free_full}

@@ -1,5 +1,6 @@
 -- `message_owed::drop_first` meets its contract.
-use Rattle.laws.specs.Usual.{◌≡◌, ap, ◌∙◌, List, ℕ, ◌-◌, arith, get_or, set, needs}
+use Rattle.std.specs.Prelude.{◌≡◌, ◌-◌}
+use Rattle.laws.specs.Usual.{ap, ◌∙◌, List, ℕ, arith, get_or, set, needs}
 use Rattle.message_owed.specs.Steps.{kept_dropped, kept_none}
 use Rattle.message_owed.proofs.drop_first.Statement.{statement}
 use Rattle.message_owed.proofs.drop_first.Tie as tie

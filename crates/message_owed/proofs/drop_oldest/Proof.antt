@@ -1,5 +1,6 @@
 -- `message_owed::drop_oldest` meets its contract.
-use Rattle.laws.specs.Usual.{ap, ◌∙◌, ◌≤◌, arith, length, drop}
+use Rattle.std.specs.Prelude.{◌≤◌}
+use Rattle.laws.specs.Usual.{ap, ◌∙◌, arith, length, drop}
 use lib.ListN.{length-drop}
 use Rattle.message_places.specs.Owed.{owed_in}
 use Rattle.message_owed.specs.Laws.{at_most_eight, octets_owed, octets_dropped, owed_back}

@@ -1,5 +1,6 @@
 -- `message_owed::is_full` meets its contract.
-use Rattle.laws.specs.Usual.{◌≡◌, sym, ap, ◌∙◌, not, ◌<◌, arith, length, needs}
+use Rattle.std.specs.Prelude.{◌≡◌, ◌<◌}
+use Rattle.laws.specs.Usual.{sym, ap, ◌∙◌, not, arith, length, needs}
 use Rattle.message_places.specs.Owed.{owed_in}
 use Rattle.message_owed.specs.Laws.{length_owed, full_few, full_eight}
 use Rattle.message_owed.proofs.is_full.Statement.{statement}

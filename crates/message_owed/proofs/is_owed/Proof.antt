@@ -1,5 +1,6 @@
 -- `message_owed::is_owed` meets its contract.
-use Rattle.laws.specs.Usual.{◌≡◌, sym, ap, ◌∙◌, true, false, ℕ, ◌+◌, ◌*◌, ◌≤◌, arith, drop, needs}
+use Rattle.std.specs.Prelude.{◌≡◌, ◌+◌, ◌*◌, ◌≤◌}
+use Rattle.laws.specs.Usual.{sym, ap, ◌∙◌, true, false, ℕ, arith, drop, needs}
 use Rattle.message_places.specs.Owed.{rows_in, owed_in}
 use Rattle.message_rules.specs.Rules.Confirming.{same_confirmation, is_owed}
 use Rattle.message_owed.specs.Owing.{confirmation_at}

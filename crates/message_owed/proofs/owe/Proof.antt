@@ -1,5 +1,6 @@
 -- `message_owed::owe` meets its contract.
-use Rattle.laws.specs.Usual.{◌≡◌, sym, ap, ◌∙◌, arith, length}
+use Rattle.std.specs.Prelude.{◌≡◌}
+use Rattle.laws.specs.Usual.{sym, ap, ◌∙◌, arith, length}
 use Rattle.message_places.specs.Owed.{owed_in, kept_owed}
 use Rattle.message_owed.specs.Laws.{at_most_eight, owed_same, octets_owed, octets_free, owed_back, free_there, free_eight}
 use Rattle.message_owed.specs.Owing.{owing_where_free}

@@ -1,5 +1,6 @@
 -- `message_owed::shift` meets its contract.
-use Rattle.laws.specs.Usual.{◌≡◌, sym, ap, ◌∙◌, ℕ, ◌-◌, ◌≤◌, arith, length, drop, needs}
+use Rattle.std.specs.Prelude.{◌≡◌, ◌-◌, ◌≤◌}
+use Rattle.laws.specs.Usual.{sym, ap, ◌∙◌, ℕ, arith, length, drop, needs}
 use lib.ListN.{length-set}
 use lib.Seq.{paste, paste-zero}
 use Rattle.message_owed.specs.Steps.{shift_on}

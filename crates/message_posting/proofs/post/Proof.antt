@@ -1,12 +1,11 @@
 -- `message_posting::post` meets its contract.
-use Rattle.laws.specs.Usual.{◌≡◌, sym, ap, ap₂, ◌∙◌, true, false, List, ℕ, ◌<◌, arith, length, leb, needs}
+use Rattle.std.specs.Prelude.{◌≡◌, ◌<◌}
+use Rattle.laws.specs.Usual.{sym, ap, ap₂, ◌∙◌, true, false, List, ℕ, arith, length, leb, needs}
 use borrow.Author.Tests.{eq-eqb, ne_eqb, not-true, not-false, leb-true}
 use Rattle.boundary_core.specs.Crossing.{phase_of, station_in}
 use Rattle.boundary_core.specs.declared.Core.{Core}
 use Rattle.boundary_places.specs.Places.{core_in}
-use Rattle.frame.specs.declared.Refusal.TheVariants as refusals
 use Rattle.laws.specs.Tests.{first}
-use Rattle.message.specs.declared.Posted.TheVariants as posted
 use Rattle.message_places.specs.Outgoing.{messages_of}
 use Rattle.message_places.specs.Places.{outgoing_in}
 use Rattle.message_places.specs.declared.Outgoing.{Outgoing}
@@ -16,6 +15,8 @@ use Rattle.message_rules.specs.Rules.State.{Messages, with_slot}
 use Rattle.station.specs.Rules.State.{is_off}
 use Rattle.message_posting.specs.Sendable.{post_in, sendable_in, buffer_wrong, not_sendable, still_open, at_off, handed, meets, left_alone}
 use Rattle.message_posting.proofs.post.Statement.{statement}
+use Rattle.frame.specs.declared.Refusal.TheVariants as refusals
+use Rattle.message.specs.declared.Posted.TheVariants as posted
 use Rattle.message_posting.proofs.post.Tie as tie
 
 outgoing_in_requires : tie.Need-outgoing-in-requires

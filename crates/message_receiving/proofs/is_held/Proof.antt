@@ -1,5 +1,6 @@
 -- `message_receiving::is_held` meets its contract.
-use Rattle.laws.specs.Usual.{ap, ap₂, ◌∙◌, Bool, not, ◌&&◌, needs}
+use Rattle.std.specs.Prelude.{◌&&◌}
+use Rattle.laws.specs.Usual.{ap, ap₂, ◌∙◌, Bool, not, needs}
 use Rattle.message_places.specs.Owed.{owed_in}
 use Rattle.message_rules.specs.Rules.Confirming.{is_full}
 use Rattle.message.specs.declared.Confirmation.{Confirmation}

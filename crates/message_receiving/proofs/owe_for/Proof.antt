@@ -1,5 +1,6 @@
 -- `message_receiving::owe_for` meets its contract.
-use Rattle.laws.specs.Usual.{◌≡◌, sym, ap, ◌∙◌, Bool, cond, needs}
+use Rattle.std.specs.Prelude.{◌≡◌}
+use Rattle.laws.specs.Usual.{sym, ap, ◌∙◌, Bool, cond, needs}
 use Rattle.message.specs.declared.Confirmation.{Confirmation}
 use Rattle.message_owed.specs.Laws.{owed_same}
 use Rattle.message_owed.specs.Owing.{owing_where_free}

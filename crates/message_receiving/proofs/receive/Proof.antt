@@ -1,16 +1,16 @@
 -- `message_receiving::receive` meets its contract.
 use Rattle.laws.specs.Usual.{refl, sym, ap, ◌∙◌, needs}
 use Rattle.boundary_answers.specs.declared.Answer.{Answer}
-use Rattle.message.specs.declared.Received.TheVariants as received
 use Rattle.message_owed.specs.Laws.{owed_same}
 use Rattle.message_places.specs.Owed.{owed_in}
 use Rattle.message_rules.specs.Rules.Hearing.{answer_to}
 use Rattle.message_rules.specs.Rules.State.{no_message}
 use Rattle.message_sources.specs.Sources.{sources_in, sources_after}
-use Rattle.station.specs.declared.Heard.TheVariants as heard
 use Rattle.message_receiving.specs.Laws.{held_by, free_by, meets}
 use Rattle.message_receiving.specs.Receiving.{owed_after, taken_by}
 use Rattle.message_receiving.proofs.receive.Statement.{statement}
+use Rattle.message.specs.declared.Received.TheVariants as received
+use Rattle.station.specs.declared.Heard.TheVariants as heard
 use Rattle.message_receiving.proofs.receive.Tie as tie
 
 returns : tie.Need-returns

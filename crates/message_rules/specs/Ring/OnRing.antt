@@ -1,14 +1,15 @@
 -- What each call on both parts is to the ring part: a call of the base, or none.
-use Rattle.laws.specs.Usual.{Bool, cond, not, ◌&&◌, List, [], ◌∷◌, ◌++◌, ℕ}
+use Rattle.std.specs.Prelude.{◌&&◌, ◌∷◌, ◌++◌}
+use Rattle.laws.specs.Usual.{[], Bool, cond, not, List, ℕ}
 use Rattle.message_frames.specs.Frames.{letter_in, addressed}
 use Rattle.message_rules.specs.Rules.Calls.{Both, Call, start, stop, tick, post, hear, ask, after}
 use Rattle.message_rules.specs.Rules.Cycle.{goes}
 use Rattle.message_rules.specs.Rules.Hearing.{is_letter, is_taken}
 use Rattle.message_rules.specs.Rules.Posting.{mail_right}
-use Rattle.station.specs.Rules.Asking as asking
-use Rattle.station.specs.Rules.Calls as base
 use Rattle.station.specs.Rules.State.{is_participating}
 use Rattle.station.specs.declared.Station.{Station}
+use Rattle.station.specs.Rules.Asking as asking
+use Rattle.station.specs.Rules.Calls as base
 
 -- a message of our own number before we participate: 6, which "also turns the station off, as stop does"
 abbrev pub own_number_heard : Station → List ℕ → Bool

@@ -1,5 +1,6 @@
 -- Clause 9.3.3 d and e 1 of JEM 1479: a message that goes, its number, and sending it again.
-use Rattle.laws.specs.Usual.{Bool, true, false, cond, not, ◌&&◌, ◌||◌, ℕ, ◌+◌, min, eqb, leb}
+use Rattle.std.specs.Prelude.{◌&&◌, ◌||◌, ◌+◌}
+use Rattle.laws.specs.Usual.{Bool, true, false, cond, not, ℕ, min, eqb, leb}
 use Rattle.message.specs.Codes.{to_all}
 use Rattle.message.specs.declared.Letter.{Letter}
 use Rattle.message.specs.declared.Mail.{Mail}

@@ -1,36 +1,37 @@
 -- All calls of a station with messages. A call on both is the base's call on the ring part, and the message part looks at the ring part before and
 -- after. Two calls leave the ring part alone: handing in a message, and an asking that writes one.
-use Rattle.laws.specs.Usual.{Bool, true, false, cond, not, ◌&&◌, List, [], ◌∷◌, ℕ}
-use Rattle.frame.specs.declared.Refusal.TheVariants as refusals
+use Rattle.std.specs.Prelude.{◌&&◌, ◌∷◌}
+use Rattle.laws.specs.Usual.{[], Bool, true, false, cond, not, List, ℕ}
 use Rattle.message.specs.declared.Allowance.{Allowance}
 use Rattle.message.specs.declared.Mail.{Mail}
 use Rattle.message.specs.declared.Message.{Message}
 use Rattle.message.specs.declared.Posted.{Posted}
-use Rattle.message.specs.declared.Posted.TheVariants as posted
 use Rattle.message.specs.declared.Received.{Received}
-use Rattle.message.specs.declared.Received.TheVariants as received
 use Rattle.message_frames.specs.Frames.{whole_length, output_of}
 use Rattle.station.specs.Panel.History.{step_of, is_taking}
-use Rattle.station.specs.Rules.Asking as asking
-use Rattle.station.specs.Rules.Calls as base
-use Rattle.station.specs.Rules.Hearing as hearing
-use Rattle.station.specs.Rules.Starting as starting
 use Rattle.station.specs.Rules.State.{is_off, is_participating, never}
-use Rattle.station.specs.Rules.Ticking as ticking
 use Rattle.station.specs.declared.Asked.{Asked}
-use Rattle.station.specs.declared.Asked.TheVariants as asked
 use Rattle.station.specs.declared.Settings.{Settings}
 use Rattle.station.specs.declared.Station.{Station}
 use Rattle.station.specs.declared.Switched.{Switched}
-use Rattle.station.specs.declared.Switched.TheVariants as switched
 use Rattle.station.specs.declared.Ticked.{Ticked}
 use Rattle.message_rules.specs.Rules.Again.{ticked, turned, gone, letter_going}
 use Rattle.message_rules.specs.Rules.Confirming.{Carried, carried_in, after_frame}
 use Rattle.message_rules.specs.Rules.Cycle.{goes}
-use Rattle.message_rules.specs.Rules.Hearing as letters
 use Rattle.message_rules.specs.Rules.Hearing.{is_letter, message_heard}
 use Rattle.message_rules.specs.Rules.Posting.{mail_right, post_of}
 use Rattle.message_rules.specs.Rules.State.{Messages, no_messages, begun, with_heard}
+use Rattle.frame.specs.declared.Refusal.TheVariants as refusals
+use Rattle.message.specs.declared.Posted.TheVariants as posted
+use Rattle.message.specs.declared.Received.TheVariants as received
+use Rattle.station.specs.Rules.Asking as asking
+use Rattle.station.specs.Rules.Calls as base
+use Rattle.station.specs.Rules.Hearing as hearing
+use Rattle.station.specs.Rules.Starting as starting
+use Rattle.station.specs.Rules.Ticking as ticking
+use Rattle.station.specs.declared.Asked.TheVariants as asked
+use Rattle.station.specs.declared.Switched.TheVariants as switched
+use Rattle.message_rules.specs.Rules.Hearing as letters
 
 -- a station with messages: its ring part, which is a station of the base, and its message part
 pub record Both : Type 0 where

@@ -1,5 +1,6 @@
 -- Clause 10.2 of JEM 1479: confirmations owed and carried, and a confirmation of ours that a frame brings.
-use Rattle.laws.specs.Usual.{Bool, true, false, cond, ◌&&◌, List, [], ◌∷◌, ◌++◌, ℕ, ◌+◌, length, take, drop, eqb, leb, ltb}
+use Rattle.std.specs.Prelude.{◌&&◌, ◌∷◌, ◌++◌, ◌+◌}
+use Rattle.laws.specs.Usual.{[], Bool, true, false, cond, List, ℕ, length, take, drop, eqb, leb, ltb}
 use Rattle.frame.specs.Octets.{octet_at}
 use Rattle.frame.specs.Positions.{SNA}
 use Rattle.message.specs.declared.Confirmation.{Confirmation}
@@ -7,10 +8,10 @@ use Rattle.message_frames.specs.Confirmations.{carrying, confirms, confirmation_
 use Rattle.message_frames.specs.Places.{confirmation_length}
 use Rattle.station.specs.Rules.State.{is_participating}
 use Rattle.station.specs.declared.Heard.{Heard}
-use Rattle.station.specs.declared.Heard.TheVariants as heard
 use Rattle.station.specs.declared.Station.{Station}
 use Rattle.message_rules.specs.Rules.Again.{is_unconfirmed, slot_answered}
 use Rattle.message_rules.specs.Rules.State.{Messages, with_slot}
+use Rattle.station.specs.declared.Heard.TheVariants as heard
 
 -- as many confirmations as one cyclic transmission may carry (10.2)
 abbrev pub owed_most : ℕ

@@ -1,5 +1,6 @@
 -- E2 of paper 02: when a message goes. "The cycle" is what the panel shows: the ticks from one taking of ours to the next.
-use Rattle.laws.specs.Usual.{Bool, not, ◌&&◌, ◌||◌, ℕ, ◌*◌, eqb, leb, ltb}
+use Rattle.std.specs.Prelude.{◌&&◌, ◌||◌, ◌*◌}
+use Rattle.laws.specs.Usual.{Bool, not, ℕ, eqb, leb, ltb}
 use Rattle.message.specs.Codes.{is_message}
 use Rattle.message_frames.specs.Frames.{data_most}
 use Rattle.panel.specs.declared.Panel.{Panel}

@@ -1,9 +1,9 @@
 -- E2 of paper 02, with clause 9.3.3 e 2 of JEM 1479: hearing a message.
-use Rattle.laws.specs.Usual.{Bool, true, false, cond, not, ◌&&◌, ◌||◌, List, ℕ, length, eqb}
+use Rattle.std.specs.Prelude.{◌&&◌, ◌||◌}
+use Rattle.laws.specs.Usual.{Bool, true, false, cond, not, List, ℕ, length, eqb}
 use Rattle.frame.specs.Octets.{word_at}
 use Rattle.frame.specs.Positions.{TCD}
 use Rattle.frame.specs.declared.Refusal.{Refusal}
-use Rattle.frame.specs.declared.Refusal.TheVariants as refusals
 use Rattle.frame_reading.specs.Reading.{whole, marked, long}
 use Rattle.members.specs.Members.{is_listed}
 use Rattle.message.specs.Codes.{is_message, to_all}
@@ -14,14 +14,15 @@ use Rattle.message.specs.declared.Judged.{Judged}
 use Rattle.message.specs.declared.Judged.TheVariants.{Abnormal, OtherVersion, Repeat, New}
 use Rattle.message.specs.declared.Letter.{Letter}
 use Rattle.message.specs.declared.Received.{Received}
-use Rattle.message.specs.declared.Received.TheVariants as answers
 use Rattle.message_frames.specs.Frames.{letter_in, addressed, measured}
 use Rattle.station.specs.Rules.Hearing.{lent_right, after_taken}
 use Rattle.station.specs.Rules.State.{is_off, is_participating}
-use Rattle.station.specs.declared.Heard.TheVariants as heard
 use Rattle.station.specs.declared.Station.{Station}
 use Rattle.message_rules.specs.Rules.Confirming.{owing, is_full}
 use Rattle.message_rules.specs.Rules.State.{Known, Messages, no_messages, known_of, with_known, with_heard}
+use Rattle.frame.specs.declared.Refusal.TheVariants as refusals
+use Rattle.message.specs.declared.Received.TheVariants as answers
+use Rattle.station.specs.declared.Heard.TheVariants as heard
 
 -- the ring part and the message part after it, and the answer; no buffer is touched
 pub record Hearing : Type 0 where

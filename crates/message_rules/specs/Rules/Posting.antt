@@ -1,20 +1,21 @@
 -- E2 of paper 02: handing in a message, the call `post`.
-use Rattle.laws.specs.Usual.{Bool, true, false, cond, not, ◌&&◌, ◌||◌, List, ℕ, length, eqb, leb}
+use Rattle.std.specs.Prelude.{◌&&◌, ◌||◌}
+use Rattle.laws.specs.Usual.{Bool, true, false, cond, not, List, ℕ, length, eqb, leb}
 use Rattle.copying.specs.Pasted.{pasted}
 use Rattle.frame.specs.declared.Refusal.{Refusal}
-use Rattle.frame.specs.declared.Refusal.TheVariants as refusals
 use Rattle.members.specs.Members.{is_listed}
 use Rattle.message.specs.Codes.{is_message, to_all}
 use Rattle.message.specs.declared.Mail.TheVariants.{Waiting}
 use Rattle.message.specs.declared.Message.{Message}
 use Rattle.message.specs.declared.Posted.{Posted}
-use Rattle.message.specs.declared.Posted.TheVariants as answers
 use Rattle.message_frames.specs.Frames.{data_most}
 use Rattle.station.specs.Rules.State.{is_off}
 use Rattle.station.specs.declared.Station.{Station}
 use Rattle.message_rules.specs.Rules.Again.{is_open}
 use Rattle.message.specs.declared.Slot.{Slot}
 use Rattle.message_rules.specs.Rules.State.{Messages, with_slot}
+use Rattle.frame.specs.declared.Refusal.TheVariants as refusals
+use Rattle.message.specs.declared.Posted.TheVariants as answers
 
 -- the call: the message part after it, the answer, and the mail buffer after it; the data are only read, and the ring part stays
 pub record Posting : Type 0 where

@@ -1,5 +1,5 @@
 -- The message part of a station (E2 of paper 02, clause 9.3.3 of JEM 1479): what it holds, and how it begins.
-use Rattle.laws.specs.Usual.{Bool, true, false, List, [], ℕ, max, get_or, set, replicate}
+use Rattle.laws.specs.Usual.{[], Bool, true, false, List, ℕ, max, get_or, set, replicate}
 use Rattle.message.specs.declared.Allowance.{Allowance}
 use Rattle.message.specs.declared.Cycle.{Cycle}
 use Rattle.message.specs.declared.Confirmation.{Confirmation}

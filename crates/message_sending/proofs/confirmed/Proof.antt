@@ -1,5 +1,6 @@
 -- `message_sending::confirmed` meets its contract.
-use Rattle.laws.specs.Usual.{◌≡◌, true, false}
+use Rattle.std.specs.Prelude.{◌≡◌}
+use Rattle.laws.specs.Usual.{true, false}
 use Rattle.message_judging.specs.Parts.{speaks_by}
 use Rattle.message_sending.proofs.confirmed.Statement.{statement}
 use Rattle.message_sending.proofs.confirmed.Tie as tie

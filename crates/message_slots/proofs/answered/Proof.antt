@@ -1,6 +1,7 @@
 -- `message_slots::answered` meets its contract.
 use borrow.Author.Tests.{eq-eqb, ne_eqb}
-use Rattle.laws.specs.Usual.{◌≡◌, ◌∙◌, arith}
+use Rattle.std.specs.Prelude.{◌≡◌}
+use Rattle.laws.specs.Usual.{◌∙◌, arith}
 use Rattle.message_slots.proofs.answered.Statement.{statement}
 use Rattle.message_slots.proofs.answered.Tie as tie
 

@@ -1,5 +1,6 @@
 -- `message_slots::counted` meets its contract.
-use Rattle.laws.specs.Usual.{◌≡◌, sym, ◌∙◌, true}
+use Rattle.std.specs.Prelude.{◌≡◌}
+use Rattle.laws.specs.Usual.{sym, ◌∙◌, true}
 use Rattle.message_rules.specs.Rules.Again.{is_unconfirmed}
 use Rattle.message_slots.proofs.counted.Statement.{statement}
 use Rattle.message_slots.proofs.counted.Tie as tie

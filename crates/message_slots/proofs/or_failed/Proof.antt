@@ -1,5 +1,6 @@
 -- `message_slots::or_failed` meets its contract.
-use Rattle.laws.specs.Usual.{◌≡◌, refl, sym, ap₂, ◌∙◌, Bool, true, false, ◌&&◌, leb}
+use Rattle.std.specs.Prelude.{◌≡◌, ◌&&◌}
+use Rattle.laws.specs.Usual.{refl, sym, ap₂, ◌∙◌, Bool, true, false, leb}
 use Rattle.message.specs.declared.Slot.{Slot}
 use Rattle.message_rules.specs.Rules.Again.{is_unconfirmed, is_due, resends_most}
 use Rattle.message_slots.proofs.or_failed.Statement.{statement}

@@ -1,5 +1,6 @@
 -- `message_sources::note_new` meets its contract.
-use Rattle.laws.specs.Usual.{◌≡◌, refl, sym, ap, ◌∙◌, Bool, true, false, cond, get_or, set, needs}
+use Rattle.std.specs.Prelude.{◌≡◌}
+use Rattle.laws.specs.Usual.{refl, sym, ap, ◌∙◌, Bool, true, false, cond, get_or, set, needs}
 use lib.Seq.{set-get_or}
 use Rattle.message.specs.Codes.{to_all}
 use Rattle.message_sources.proofs.note_new.Statement.{statement}

@@ -1,5 +1,6 @@
 -- `message_stretches::to_last_news` meets its contract.
-use Rattle.laws.specs.Usual.{◌≡◌, refl, ap, ap₂, ◌∙◌, Bool, not, ◌&&◌, List, ◌+◌, ◌-◌, ◌≤◌, arith}
+use Rattle.std.specs.Prelude.{◌≡◌, ◌&&◌, ◌+◌, ◌-◌, ◌≤◌}
+use Rattle.laws.specs.Usual.{refl, ap, ap₂, ◌∙◌, Bool, not, List, arith}
 use native.Mathlib.Nat.{le_refl}
 use Rattle.boundary_core.specs.Crossing.{station_of, station_in}
 use Rattle.boundary_lists.specs.Lists.{members_in}

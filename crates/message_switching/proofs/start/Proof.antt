@@ -1,5 +1,6 @@
 -- `message_switching::start` meets its contract.
-use Rattle.laws.specs.Usual.{◌≡◌, ap, ap₂, ◌∙◌, Bool, eqb, needs}
+use Rattle.std.specs.Prelude.{◌≡◌}
+use Rattle.laws.specs.Usual.{ap, ap₂, ◌∙◌, Bool, eqb, needs}
 use Rattle.boundary_answers.specs.declared.Answer.{Answer}
 use Rattle.boundary_core.specs.Crossing.{station_in}
 use Rattle.boundary_places.specs.Places.{core_in}

@@ -1,5 +1,6 @@
 -- `message_taking::is_holder` meets its contract.
-use Rattle.laws.specs.Usual.{ap, sym, ◌∙◌, Bool, ◌&&◌, eqb, needs}
+use Rattle.std.specs.Prelude.{◌&&◌}
+use Rattle.laws.specs.Usual.{ap, sym, ◌∙◌, Bool, eqb, needs}
 use Rattle.boundary_core.specs.declared.Core.{Core}
 use Rattle.boundary_places.specs.Places.{core_in}
 use Rattle.boundary_refused.specs.Taken.{participating_in}

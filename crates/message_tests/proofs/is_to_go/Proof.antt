@@ -1,5 +1,6 @@
 -- `message_tests::is_to_go` meets its contract.
-use Rattle.laws.specs.Usual.{ap₂, ◌&&◌, ◌||◌}
+use Rattle.std.specs.Prelude.{◌&&◌, ◌||◌}
+use Rattle.laws.specs.Usual.{ap₂}
 use Rattle.message_tests.proofs.is_to_go.Statement.{statement}
 use Rattle.message_tests.proofs.is_to_go.Tie as tie
 

@@ -1,5 +1,6 @@
 -- `message_ticking::tick` meets its contract.
-use Rattle.laws.specs.Usual.{sym, ap, ap₂, ◌∙◌, Bool, not, ◌&&◌, needs}
+use Rattle.std.specs.Prelude.{◌&&◌}
+use Rattle.laws.specs.Usual.{sym, ap, ap₂, ◌∙◌, Bool, not, needs}
 use Rattle.boundary_core.specs.Crossing.{station_in}
 use Rattle.boundary_places.specs.Places.{core_in}
 use Rattle.message_places.specs.Outgoing.{outgoing_of, messages_of}

@@ -1,5 +1,6 @@
 -- `message_writing::write` meets its contract.
-use Rattle.laws.specs.Usual.{ap, ◌∙◌, List, ℕ, ◌-◌, take, needs}
+use Rattle.std.specs.Prelude.{◌-◌}
+use Rattle.laws.specs.Usual.{ap, ◌∙◌, List, ℕ, take, needs}
 use native.Mathlib.Nat.{sub-zero}
 use Rattle.copying.specs.Pasted.{pasted}
 use Rattle.message_frames.specs.Frames.{header_of}

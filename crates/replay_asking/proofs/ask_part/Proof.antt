@@ -1,5 +1,6 @@
 -- `replay_asking::ask_part` meets its contract.
-use Rattle.laws.specs.Usual.{◌≡◌, sym, ap, ap₂, ◌∙◌, List, [], ◌++◌, ℕ, arith, length, take, drop, needs}
+use Rattle.std.specs.Prelude.{◌≡◌, ◌++◌}
+use Rattle.laws.specs.Usual.{sym, ap, ap₂, ◌∙◌, List, [], ℕ, arith, length, take, drop, needs}
 use mathlib.Core.List.{append-nil}
 use native.Mathlib.Nat.{sub-zero}
 use lib.ListN.{drop_of_length-le}

@@ -1,5 +1,6 @@
 -- `replay_commands::peek_of` meets its contract.
-use Rattle.laws.specs.Usual.{◌≡◌, refl, sym, ap, ◌∙◌, Bool, cond, ◌&&◌, List, ℕ, ◌+◌, length, leb, needs}
+use Rattle.std.specs.Prelude.{◌≡◌, ◌&&◌, ◌+◌}
+use Rattle.laws.specs.Usual.{refl, sym, ap, ◌∙◌, Bool, cond, List, ℕ, length, leb, needs}
 use Rattle.replay_commands.specs.Commands.{peek_of}
 use Rattle.text.specs.Lines.{space}
 use Rattle.text_reading.specs.PartLaws.{ended_at}

@@ -1,5 +1,6 @@
 -- `replay_commands::poke_by` meets its contract.
-use Rattle.laws.specs.Usual.{◌+◌, arith}
+use Rattle.std.specs.Prelude.{◌+◌}
+use Rattle.laws.specs.Usual.{arith}
 use borrow.Author.Tests.{lt-ltb, le-leb, lt-leb}
 use Rattle.replay_commands.proofs.poke_by.Statement.{statement}
 use Rattle.replay_commands.proofs.poke_by.Tie as tie

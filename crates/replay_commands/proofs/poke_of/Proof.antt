@@ -1,5 +1,6 @@
 -- `replay_commands::poke_of` meets its contract.
-use Rattle.laws.specs.Usual.{◌≡◌, refl, sym, ap, ap₂, ◌∙◌, Bool, true, false, cond, ◌&&◌, List, [], ℕ, ◌+◌, ◌<◌, ◌≤◌, arith, length, get_or, drop, leb, needs}
+use Rattle.std.specs.Prelude.{◌≡◌, ◌&&◌, ◌+◌, ◌<◌, ◌≤◌}
+use Rattle.laws.specs.Usual.{refl, sym, ap, ap₂, ◌∙◌, Bool, true, false, cond, List, [], ℕ, arith, length, get_or, drop, leb, needs}
 use native.Mathlib.Decide.{dec_lt}
 use lib.ListN.{length-drop, get_or-eq_default}
 use lib.Seq.{take_all}

@@ -1,5 +1,6 @@
 -- `replay_commands::start_of` meets its contract.
-use Rattle.laws.specs.Usual.{◌≡◌, refl, sym, ap, ◌∙◌, Bool, cond, List, ℕ, length, leb}
+use Rattle.std.specs.Prelude.{◌≡◌}
+use Rattle.laws.specs.Usual.{refl, sym, ap, ◌∙◌, Bool, cond, List, ℕ, length, leb}
 use borrow.Author.Tests.{le-leb, lt-leb}
 use Rattle.replay_commands.specs.Commands.{start_by, start_of}
 use Rattle.text.specs.Lines.{space}

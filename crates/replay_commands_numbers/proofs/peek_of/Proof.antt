@@ -1,5 +1,6 @@
 -- `replay_commands_numbers::peek_of` meets its contract.
-use Rattle.laws.specs.Usual.{◌≡◌, refl, sym, ap, ◌∙◌, Bool, cond, ◌&&◌, List, ℕ, ◌+◌, arith, length, leb}
+use Rattle.std.specs.Prelude.{◌≡◌, ◌&&◌, ◌+◌}
+use Rattle.laws.specs.Usual.{refl, sym, ap, ◌∙◌, Bool, cond, List, ℕ, arith, length, leb}
 use Rattle.text.specs.Lines.{space}
 use Rattle.text_reading.specs.PartLaws.{ended_at}
 use Rattle.replay_words.specs.WordLaws.{value_most, read_at}

@@ -1,5 +1,6 @@
 -- `replay_commands_numbers::tick_of` meets its contract.
-use Rattle.laws.specs.Usual.{◌≡◌, refl, sym, ap, ◌∙◌, Bool, cond, ◌&&◌, List, ℕ, arith, length, leb}
+use Rattle.std.specs.Prelude.{◌≡◌, ◌&&◌}
+use Rattle.laws.specs.Usual.{refl, sym, ap, ◌∙◌, Bool, cond, List, ℕ, arith, length, leb}
 use borrow.Author.Tests.{leb-true}
 use Rattle.laws.specs.Tests.{second}
 use Rattle.text.specs.Lines.{space}

@@ -1,5 +1,6 @@
 -- `replay_commands_poke::poke_of` meets its contract.
-use Rattle.laws.specs.Usual.{◌≡◌, refl, sym, ap, ap₂, ◌∙◌, Bool, true, false, cond, ◌&&◌, List, [], ℕ, ◌+◌, ◌<◌, ◌≤◌, arith, length, get_or, drop, leb, needs}
+use Rattle.std.specs.Prelude.{◌≡◌, ◌&&◌, ◌+◌, ◌<◌, ◌≤◌}
+use Rattle.laws.specs.Usual.{refl, sym, ap, ap₂, ◌∙◌, Bool, true, false, cond, List, [], ℕ, arith, length, get_or, drop, leb, needs}
 use lib.ListN.{get_or-eq_default}
 use borrow.Author.Tests.{le-leb, leb-true}
 use Rattle.laws.specs.Lists.{to_end}

@@ -1,5 +1,6 @@
 -- `replay_commands_post::post_by` meets its contract.
-use Rattle.laws.specs.Usual.{◌≡◌, refl, Bool, true, ◌&&◌, ◌≤◌, arith, leb}
+use Rattle.std.specs.Prelude.{◌≡◌, ◌&&◌, ◌≤◌}
+use Rattle.laws.specs.Usual.{refl, Bool, true, arith, leb}
 use borrow.Author.Tests.{leb-true}
 use Rattle.laws.specs.Tests.{first, second}
 use Rattle.replay_table.specs.Choices.{taken, passed}

@@ -1,5 +1,6 @@
 -- `replay_commands_start::start_of` meets its contract.
-use Rattle.laws.specs.Usual.{◌≡◌, refl, sym, ap, ap₂, ◌∙◌, Bool, cond, List, ℕ, ◌<◌, ◌≤◌, length, leb}
+use Rattle.std.specs.Prelude.{◌≡◌, ◌<◌, ◌≤◌}
+use Rattle.laws.specs.Usual.{refl, sym, ap, ap₂, ◌∙◌, Bool, cond, List, ℕ, length, leb}
 use borrow.Author.Tests.{le-leb, lt-leb}
 use Rattle.text.specs.Lines.{space}
 use Rattle.text_reading.specs.PartLaws.{place_of, ended_at}

@@ -1,5 +1,6 @@
 -- `replay_end::put_rest` meets its contract.
-use Rattle.laws.specs.Usual.{◌≡◌, refl, sym, true, false, ltb, needs}
+use Rattle.std.specs.Prelude.{◌≡◌}
+use Rattle.laws.specs.Usual.{refl, sym, true, false, ltb, needs}
 use borrow.Author.Tests.{lt-ltb, le-ltb}
 use Rattle.copying.specs.Laws.{paste_nothing}
 use Rattle.replay_end.proofs.put_rest.Statement.{statement}

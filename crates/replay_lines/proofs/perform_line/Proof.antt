@@ -1,5 +1,6 @@
 -- `replay_lines::perform_line` meets its contract.
-use Rattle.laws.specs.Usual.{◌≡◌, ap, ◌∙◌, List, ℕ, length}
+use Rattle.std.specs.Prelude.{◌≡◌}
+use Rattle.laws.specs.Usual.{ap, ◌∙◌, List, ℕ, length}
 use Rattle.replay_commands.specs.Commands.{command_in}
 use Rattle.replay_commands.specs.declared.Command.{Command}
 use Rattle.copying.specs.Pasted.{pasted}

@@ -1,8 +1,9 @@
 -- `replay_lines::take_next` meets its contract.
-use Rattle.laws.specs.Usual.{◌≡◌, sym, ap, ap₂, ◌∙◌, List, ℕ, length, drop}
+use Rattle.std.specs.Prelude.{◌≡◌}
+use Rattle.laws.specs.Usual.{sym, ap, ap₂, ◌∙◌, List, ℕ, length, drop}
 use Rattle.copying.specs.Laws.{paste_nothing}
 use Rattle.copying.specs.Pasted.{pasted}
-use Rattle.text_feeding.specs.Scan.{Scan, ended_taken, ended_said, open_taken, open_said}
+use Rattle.text_feeding.proofs.Scan.{ended_taken, ended_said, open_taken, open_said, Scan}
 use Rattle.replay_input.specs.Gathering.{scanned, buffer_scanned}
 use Rattle.replay_input.specs.declared.Line.{Line}
 use Rattle.replay_input.specs.declared.Scanned.{Scanned}

@@ -1,5 +1,6 @@
 -- `replay_performing::digits_of` meets its contract.
-use Rattle.laws.specs.Usual.{◌∙◌, ◌*◌, arith, length, needs}
+use Rattle.std.specs.Prelude.{◌*◌}
+use Rattle.laws.specs.Usual.{◌∙◌, arith, length, needs}
 use Rattle.replay_performing.proofs.Buffers.{all_behind}
 use Rattle.replay_performing.proofs.digits_of.Statement.{statement}
 use Rattle.replay_performing.proofs.digits_of.Tie as tie

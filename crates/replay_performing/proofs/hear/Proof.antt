@@ -1,5 +1,6 @@
 -- `replay_performing::hear` meets its contract.
-use Rattle.laws.specs.Usual.{ap, ◌∙◌, List, ℕ, ◌-◌, arith, length, take, replicate, needs, refl}
+use Rattle.std.specs.Prelude.{◌-◌}
+use Rattle.laws.specs.Usual.{ap, ◌∙◌, List, ℕ, arith, length, take, replicate, needs, refl}
 use native.Mathlib.Nat.{sub-zero}
 use lib.ListN.{length-take}
 use Rattle.text_hexadecimal.specs.Octets.{octets_of}

@@ -1,5 +1,6 @@
 -- `replay_performing::perform` meets its contract.
-use Rattle.laws.specs.Usual.{◌≡◌, refl, sym, ap, subst, ◌∙◌, List, ℕ, arith, length}
+use Rattle.std.specs.Prelude.{◌≡◌}
+use Rattle.laws.specs.Usual.{refl, sym, ap, subst, ◌∙◌, List, ℕ, arith, length}
 use Rattle.copying.specs.Pasted.{pasted}
 use Rattle.replay_replies.specs.Replies.{switched_text}
 use Rattle.replay_reply_shown.specs.Shown.{panel_text}

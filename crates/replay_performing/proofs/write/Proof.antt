@@ -1,5 +1,6 @@
 -- `replay_performing::write` meets its contract.
-use Rattle.laws.specs.Usual.{◌≡◌, sym, ap, ◌∙◌, ℕ, ◌-◌, arith, length, take, needs}
+use Rattle.std.specs.Prelude.{◌≡◌, ◌-◌}
+use Rattle.laws.specs.Usual.{sym, ap, ◌∙◌, ℕ, arith, length, take, needs}
 use Rattle.text_hexadecimal.specs.Octets.{octets_of}
 use Rattle.copying.specs.Laws.{paste_nothing}
 use Rattle.copying.specs.Pasted.{pasted}

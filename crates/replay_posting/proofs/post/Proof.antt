@@ -1,5 +1,6 @@
 -- `replay_posting::post` meets its contract.
-use Rattle.laws.specs.Usual.{refl, ap, ◌∙◌, List, ℕ, ◌-◌, arith, length, take, replicate, needs}
+use Rattle.std.specs.Prelude.{◌-◌}
+use Rattle.laws.specs.Usual.{refl, ap, ◌∙◌, List, ℕ, arith, length, take, replicate, needs}
 use native.Mathlib.Nat.{sub-zero}
 use lib.ListN.{length-take}
 use Rattle.copying.specs.Laws.{front_read}

@@ -1,5 +1,6 @@
 -- `replay_reply_asked::put_frame` meets its contract.
-use Rattle.laws.specs.Usual.{[], ◌∷◌, ◌++◌, arith, needs}
+use Rattle.std.specs.Prelude.{◌∷◌, ◌++◌}
+use Rattle.laws.specs.Usual.{[], arith, needs}
 use Rattle.text.specs.Lines.{space, line_feed}
 use Rattle.replay_reply_parts.specs.Hex.{hex_of}
 use Rattle.replay_reply_parts.specs.HexLaws.{hex_length}

@@ -1,5 +1,6 @@
 -- `replay_reply_entries::put_entries` meets its contract.
-use Rattle.laws.specs.Usual.{◌≡◌, refl, sym, ◌∙◌, ◌+◌, ◌-◌, ◌<◌, ◌≤◌, arith, length, take, needs}
+use Rattle.std.specs.Prelude.{◌≡◌, ◌+◌, ◌-◌, ◌<◌, ◌≤◌}
+use Rattle.laws.specs.Usual.{refl, sym, ◌∙◌, arith, length, take, needs}
 use lib.Seq.{length-take-le, take_all}
 use Rattle.boundary_lists.specs.Laws.{length_in}
 use Rattle.boundary_lists.specs.Lists.{members_in}

@@ -1,5 +1,6 @@
 -- `replay_reply_owed::put_confirmation` meets its contract.
-use Rattle.laws.specs.Usual.{[], ◌∷◌, ◌++◌, arith, needs}
+use Rattle.std.specs.Prelude.{◌∷◌, ◌++◌}
+use Rattle.laws.specs.Usual.{[], arith, needs}
 use lib.ListN.{length-append}
 use Rattle.text.specs.Decimal.{decimal_of}
 use Rattle.text.specs.Digits.{at_most}

@@ -1,8 +1,4 @@
 -- `replay_reply_owed::put_confirmations` meets its contract.
-use Rattle.laws.specs.Usual.{sym, ◌∙◌, length}
-use Rattle.message_owed.specs.Laws.{at_most_eight}
-use Rattle.message_places.specs.Owed.{owed_in}
-use Rattle.replay_reply_owed.specs.Listing.{Listing, listing_first, fewer, room, listing_on, listing_last}
 use Rattle.laws.specs.Usual.{sym, ◌∙◌, length, needs}
 use Rattle.message_owed.specs.Laws.{at_most_eight}
 use Rattle.message_places.specs.Owed.{owed_in}

@@ -1,5 +1,6 @@
 -- `replay_reply_owed::put_owed` meets its contract.
-use Rattle.laws.specs.Usual.{[], ◌∷◌, ◌++◌, arith, needs}
+use Rattle.std.specs.Prelude.{◌∷◌, ◌++◌}
+use Rattle.laws.specs.Usual.{[], arith, needs}
 use Rattle.message_owed.specs.Laws.{at_most_eight}
 use Rattle.message_places.specs.Owed.{owed_in}
 use Rattle.replay_reply_parts.specs.Lines.{ended}

@@ -1,5 +1,6 @@
 -- `replay_reply_received::last_of` meets its contract.
-use Rattle.laws.specs.Usual.{◌≡◌, sym, ap, ◌∙◌, ℕ, ◌-◌, arith, length, drop, needs}
+use Rattle.std.specs.Prelude.{◌≡◌, ◌-◌}
+use Rattle.laws.specs.Usual.{sym, ap, ◌∙◌, ℕ, arith, length, drop, needs}
 use Rattle.laws.specs.Lists.{to_end}
 use Rattle.replay_reply_received.proofs.last_of.Statement.{statement}
 use Rattle.replay_reply_received.proofs.last_of.Tie as tie

@@ -1,5 +1,6 @@
 -- `replay_reply_received::put_data` meets its contract.
-use Rattle.laws.specs.Usual.{sym, [], ◌∷◌, arith, needs}
+use Rattle.std.specs.Prelude.{◌∷◌}
+use Rattle.laws.specs.Usual.{sym, [], arith, needs}
 use borrow.Author.Tests.{ne_eqb}
 use Rattle.copying.specs.Laws.{paste_nothing}
 use Rattle.replay_reply_parts.specs.Hex.{hex_of}

@@ -1,5 +1,6 @@
 -- `replay_reply_received::put_message` meets its contract.
-use Rattle.laws.specs.Usual.{[], ◌∷◌, ◌++◌, arith, needs}
+use Rattle.std.specs.Prelude.{◌∷◌, ◌++◌}
+use Rattle.laws.specs.Usual.{[], arith, needs}
 use lib.ListN.{length-append}
 use Rattle.replay_reply_numbers.specs.Numbers.{numbers_text}
 use Rattle.replay_reply_numbers.specs.Room.{numbers_length}

@@ -1,5 +1,6 @@
 -- `replay_reply_received::put_received` meets its contract.
-use Rattle.laws.specs.Usual.{ap, ◌-◌, arith, length, needs}
+use Rattle.std.specs.Prelude.{◌-◌}
+use Rattle.laws.specs.Usual.{ap, arith, length, needs}
 use borrow.Author.Tests.{ne_eqb}
 use lib.ListN.{length-drop}
 use Rattle.replay_reply_parts.specs.Written.{same_text}

@@ -1,5 +1,6 @@
 -- `replay_reply_shown::put_octets` meets its contract.
-use Rattle.laws.specs.Usual.{[], ◌∷◌, arith, needs}
+use Rattle.std.specs.Prelude.{◌∷◌}
+use Rattle.laws.specs.Usual.{[], arith, needs}
 use Rattle.text.specs.Lines.{line_feed}
 use Rattle.replay_reply_parts.specs.Hex.{hex_of}
 use Rattle.replay_reply_shown.specs.Shown.{octets_text}

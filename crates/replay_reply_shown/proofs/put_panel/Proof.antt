@@ -1,5 +1,6 @@
 -- `replay_reply_shown::put_panel` meets its contract.
-use Rattle.laws.specs.Usual.{◌≡◌, ap, ◌∙◌, List, ℕ, ◌-◌, arith, length, take, replicate, needs}
+use Rattle.std.specs.Prelude.{◌≡◌, ◌-◌}
+use Rattle.laws.specs.Usual.{ap, ◌∙◌, List, ℕ, arith, length, take, replicate, needs}
 use lib.ListN.{length-append, length-take}
 use Rattle.copying.specs.Pasted.{pasted}
 use Rattle.panel.specs.Panel.{text_of}

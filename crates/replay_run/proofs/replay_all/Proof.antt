@@ -1,7 +1,8 @@
 -- `replay_run::replay_all` meets its contract.
-use Rattle.laws.specs.Usual.{◌≡◌, refl, sym, ap, ap₂, ◌∙◌, List, [], ◌++◌, ℕ, arith, length, take}
+use Rattle.std.specs.Prelude.{◌≡◌, ◌++◌}
+use Rattle.laws.specs.Usual.{refl, sym, ap, ap₂, ◌∙◌, List, [], ℕ, arith, length, take}
 use borrow.Author.Tests.{ltb-true}
-use Rattle.text_feeding.specs.Fed.{fed_parts}
+use Rattle.text_feeding.proofs.Fed.{fed_parts}
 use Rattle.replay_input.specs.Gathering.{fresh}
 use Rattle.replay_input.specs.declared.Line.{Line}
 use Rattle.replay_lines.specs.Replay.{Carried, held, replay, after}

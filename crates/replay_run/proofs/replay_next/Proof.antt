@@ -1,8 +1,8 @@
 -- `replay_run::replay_next` meets its contract.
 use Rattle.laws.specs.Usual.{sym, ◌∙◌, replicate, needs}
 use Rattle.text_feeding.specs.Feeding.{between}
-use Rattle.text_feeding.specs.Front.{front_within, front_read}
-use Rattle.text_feeding.specs.Scan.{ended_onward, open_onward}
+use Rattle.text_feeding.proofs.Front.{front_within, front_read}
+use Rattle.text_feeding.proofs.Scan.{ended_onward, open_onward}
 use Rattle.replay_lines.specs.Replay.{held, answers}
 use Rattle.replay_run.proofs.replay_next.Statement.{statement}
 use Rattle.replay_run.proofs.replay_next.Tie as tie

@@ -1,9 +1,10 @@
 -- `replay_run::replay_part` meets its contract.
-use Rattle.laws.specs.Usual.{◌≡◌, refl, sym, ◌∙◌, false, ◌-◌, ◌≤◌, arith, length, take}
+use Rattle.std.specs.Prelude.{◌≡◌, ◌-◌, ◌≤◌}
+use Rattle.laws.specs.Usual.{refl, sym, ◌∙◌, false, arith, length, take}
 use mathlib.Core.Bool.{true≢false}
 use borrow.Author.Tests.{ltb-true, ltb-false}
 use Rattle.text_feeding.specs.Feeding.{Onward}
-use Rattle.text_feeding.specs.Scan.{taken_on, onward_all}
+use Rattle.text_feeding.proofs.Scan.{taken_on, onward_all}
 use Rattle.replay_lines.specs.Replay.{held, replay, after}
 use Rattle.replay_run.proofs.replay_part.Statement.{statement}
 use Rattle.replay_run.proofs.replay_part.Tie as tie

@@ -1,6 +1,6 @@
 -- `replay_run::replay_some` meets its contract.
 use Rattle.laws.specs.Usual.{ap, ◌∙◌, needs}
-use Rattle.text_feeding.specs.Scan.{read_arrived, read_taken}
+use Rattle.text_feeding.proofs.Scan.{read_arrived, read_taken}
 use Rattle.replay_lines.specs.Replay.{held, after}
 use Rattle.replay_run.proofs.replay_some.Statement.{statement}
 use Rattle.replay_run.proofs.replay_some.Tie as tie

@@ -1,6 +1,6 @@
 -- `replay_run::run` meets its contract.
 use Rattle.laws.specs.Usual.{replicate, needs}
-use Rattle.text_feeding.specs.Front.{front_within, front_read}
+use Rattle.text_feeding.proofs.Front.{front_within, front_read}
 use Rattle.replay_end.specs.End.{answer_to_rest}
 use Rattle.replay_run.proofs.run.Statement.{statement}
 use Rattle.replay_run.proofs.run.Tie as tie

@@ -1,5 +1,6 @@
 -- `replay_words::begins` meets its contract.
-use Rattle.laws.specs.Usual.{◌≡◌, refl, sym, ◌∙◌, ◌-◌, length, drop, needs}
+use Rattle.std.specs.Prelude.{◌≡◌, ◌-◌}
+use Rattle.laws.specs.Usual.{refl, sym, ◌∙◌, length, drop, needs}
 use borrow.Author.Tests.{eq-eqb}
 use Rattle.replay_words.specs.WordLaws.{begins_done, begins_short, begins_other, begins_more}
 use Rattle.replay_words.specs.Words.{begins}

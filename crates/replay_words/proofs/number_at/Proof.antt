@@ -1,5 +1,6 @@
 -- `replay_words::number_at` meets its contract.
-use Rattle.laws.specs.Usual.{◌≡◌, sym, ap, ap₂, ◌∙◌, List, ℕ, ◌+◌, ◌-◌, ◌≤◌, arith, length, take, drop, needs}
+use Rattle.std.specs.Prelude.{◌≡◌, ◌+◌, ◌-◌, ◌≤◌}
+use Rattle.laws.specs.Usual.{sym, ap, ap₂, ◌∙◌, List, ℕ, arith, length, take, drop, needs}
 use lib.ListN.{length-drop}
 use Rattle.text.specs.Lines.{space}
 use Rattle.text_reading.specs.MarkLaws.{before_most}

@@ -1,5 +1,6 @@
 -- `settle_cases::main` meets its contract.
-use Rattle.laws.specs.Usual.{◌-◌, needs}
+use Rattle.std.specs.Prelude.{◌-◌}
+use Rattle.laws.specs.Usual.{needs}
 use Rattle.settle_cases.proofs.main.Statement.{statement}
 use Rattle.settle_cases.proofs.main.Tie as tie
 

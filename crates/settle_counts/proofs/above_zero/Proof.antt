@@ -1,9 +1,10 @@
 -- `settle_counts::above_zero` meets its contract.
-use Rattle.laws.specs.Usual.{◌≡◌, ◌+◌, ◌-◌, ◌≤◌, arith, length, drop, needs}
+use Rattle.std.specs.Prelude.{◌≡◌, ◌+◌, ◌-◌, ◌≤◌}
+use Rattle.laws.specs.Usual.{arith, length, drop, needs}
 use Rattle.settle_counts.specs.Counts.{above_zero}
-use Rattle.settle_counts.specs.Loops.{above_end, above_none, above_some}
+use Rattle.settle_counts.proofs.Loops.{above_end, above_none, above_some}
 use Rattle.settle_counts.proofs.above_zero.Statement.{statement}
-use Rattle.settle_counts.proofs.above_zero.Tie as tie
+use Rattle.settle_counts.specs.above_zero.Tie as tie
 
 abbrev invariant_loop : tie.invariant_loop
 invariant_loop numbers total₀ view₀ total view = (total + above_zero (drop view numbers) ≡ above_zero numbers) × (total ≤ view)

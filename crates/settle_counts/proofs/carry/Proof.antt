@@ -1,10 +1,12 @@
 -- `settle_counts::carry` meets its contract.
-use Rattle.laws.specs.Usual.{◌≡◌, ◌-◌, ◌<◌, arith, length, get_or, needs}
+use Rattle.std.specs.Prelude.{◌≡◌, ◌-◌, ◌<◌}
+use Rattle.laws.specs.Usual.{arith, length, get_or, needs}
 use mir.Val.{Fits}
 use mir.Syntax.{w16}
-use Rattle.settle_counts.specs.Loops.{Carrying, carrying_none, carrying_more, carrying_all}
+use Rattle.settle_counts.proofs.Loops.{carrying_none, carrying_more, carrying_all}
+use Rattle.settle_counts.specs.Loops.{Carrying}
 use Rattle.settle_counts.proofs.carry.Statement.{statement}
-use Rattle.settle_counts.proofs.carry.Tie as tie
+use Rattle.settle_counts.specs.carry.Tie as tie
 
 abbrev invariant_loop : tie.invariant_loop
 invariant_loop moves old numbers₀ view₀ numbers view = Carrying moves old numbers view

@@ -1,11 +1,13 @@
 -- `settle_counts::count` meets its contract.
-use Rattle.laws.specs.Usual.{◌≡◌, ap, ◌∙◌, ℕ, ◌-◌, ◌<◌, ◌≤◌, arith, get_or, needs}
+use Rattle.std.specs.Prelude.{◌≡◌, ◌-◌, ◌<◌, ◌≤◌}
+use Rattle.laws.specs.Usual.{ap, ◌∙◌, ℕ, arith, get_or, needs}
 use mir.Val.{Fits}
 use mir.Syntax.{w8}
 use Rattle.settle_counts.specs.Counts.{with_total}
-use Rattle.settle_counts.specs.Loops.{Counting, counting_none, counting_skip, counting_more, counting_all}
+use Rattle.settle_counts.proofs.Loops.{counting_none, counting_skip, counting_more, counting_all}
+use Rattle.settle_counts.specs.Loops.{Counting}
 use Rattle.settle_counts.proofs.count.Statement.{statement}
-use Rattle.settle_counts.proofs.count.Tie as tie
+use Rattle.settle_counts.specs.count.Tie as tie
 
 abbrev invariant_loop : tie.invariant_loop
 invariant_loop views numbers₀ station₀ numbers station = Counting views numbers station × (station ≤ 256)

@@ -1,10 +1,12 @@
 -- `settle_counts::pass` meets its contract.
-use Rattle.laws.specs.Usual.{◌≡◌, ap, ap₂, ◌∙◌, List, ℕ, ◌+◌, ◌≤◌, min, arith, get_or, set, needs}
+use Rattle.std.specs.Prelude.{◌≡◌, ◌+◌, ◌≤◌}
+use Rattle.laws.specs.Usual.{ap, ap₂, ◌∙◌, List, ℕ, min, arith, get_or, set, needs}
 use lib.ListN.{length-set}
 use Rattle.settle_counts.specs.Counts.{above_zero, sum_of, most}
-use Rattle.settle_counts.specs.Passing.{is_moved, without_moved, pass_numbers}
+use Rattle.settle_counts.specs.Passing.{is_moved, without_moved}
+use Rattle.settle_counts.proofs.Passing.{pass_numbers}
 use Rattle.settle_counts.proofs.pass.Statement.{statement}
-use Rattle.settle_counts.proofs.pass.Tie as tie
+use Rattle.settle_counts.specs.pass.Tie as tie
 
 take_moved_requires : tie.Need-take-moved-requires
 take_moved_requires c κs = search needs

@@ -2,7 +2,7 @@
 use Rattle.laws.specs.Usual.{ap, ◌∙◌, needs}
 use Rattle.settle_counts.specs.Counts.{above_zero}
 use Rattle.settle_counts.proofs.silence_counts.Statement.{statement}
-use Rattle.settle_counts.proofs.silence_counts.Tie as tie
+use Rattle.settle_counts.specs.silence_counts.Tie as tie
 
 carry_requires : tie.Need-carry-requires
 carry_requires c κs = search needs

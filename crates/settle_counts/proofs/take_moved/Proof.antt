@@ -1,8 +1,10 @@
 -- `settle_counts::take_moved` meets its contract.
-use Rattle.laws.specs.Usual.{◌≡◌, ◌-◌, ◌<◌, ◌≤◌, arith, length, get_or, needs}
-use Rattle.settle_counts.specs.Loops.{Taking, taking_none, taking_stays, taking_moves, taking_all}
+use Rattle.std.specs.Prelude.{◌≡◌, ◌-◌, ◌<◌, ◌≤◌}
+use Rattle.laws.specs.Usual.{arith, length, get_or, needs}
+use Rattle.settle_counts.proofs.Loops.{taking_none, taking_stays, taking_moves, taking_all}
+use Rattle.settle_counts.specs.Loops.{Taking}
 use Rattle.settle_counts.proofs.take_moved.Statement.{statement}
-use Rattle.settle_counts.proofs.take_moved.Tie as tie
+use Rattle.settle_counts.specs.take_moved.Tie as tie
 
 abbrev invariant_loop : tie.invariant_loop
 invariant_loop numbers₀ from to moved₀ view₀ numbers moved view = Taking from to numbers₀ numbers moved view × (1 ≤ view) × (length numbers₀ ≡ 256) × (view ≤ 256)

@@ -1,5 +1,6 @@
 -- `settle_input::entry_of` meets its contract.
-use Rattle.laws.specs.Usual.{◌≡◌, ap, ap₂, ◌∙◌, cond, ◌&&◌, List, ℕ, ◌+◌, ◌-◌, ◌<◌, arith, length, take, drop, ltb, needs}
+use Rattle.std.specs.Prelude.{◌≡◌, ◌&&◌, ◌+◌, ◌-◌, ◌<◌}
+use Rattle.laws.specs.Usual.{ap, ap₂, ◌∙◌, cond, List, ℕ, arith, length, take, drop, ltb, needs}
 use native.Mathlib.Nat.{sub-zero}
 use Rattle.text.specs.Lines.{comma, line_feed}
 use Rattle.laws.specs.Lists.{to_end}

@@ -1,5 +1,6 @@
 -- `settle_input::line_at` meets its contract.
-use Rattle.laws.specs.Usual.{ap, ap₂, ◌∙◌, List, ℕ, ◌-◌, arith, length, take, drop, needs}
+use Rattle.std.specs.Prelude.{◌-◌}
+use Rattle.laws.specs.Usual.{ap, ap₂, ◌∙◌, List, ℕ, arith, length, take, drop, needs}
 use native.Mathlib.Nat.{sub-zero}
 use lib.ListN.{length-drop}
 use Rattle.laws.specs.Lists.{to_end}

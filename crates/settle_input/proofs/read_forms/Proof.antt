@@ -1,5 +1,6 @@
 -- `settle_input::read_forms` meets its contract.
-use Rattle.laws.specs.Usual.{◌≡◌, refl, sym, ap, ◌∙◌, List, ℕ, ◌+◌, ◌-◌, ◌≤◌, arith, length, drop, replicate, needs}
+use Rattle.std.specs.Prelude.{◌≡◌, ◌+◌, ◌-◌, ◌≤◌}
+use Rattle.laws.specs.Usual.{refl, sym, ap, ◌∙◌, List, ℕ, arith, length, drop, replicate, needs}
 use native.Mathlib.Numerals.{add-one}
 use lib.ListN.{length-drop, drop_of_length-le}
 use Rattle.settle_input.specs.declared.Line.{Line}

@@ -1,5 +1,6 @@
 -- `settle_last::shorten` meets its contract.
-use Rattle.laws.specs.Usual.{sym, ap, ◌∙◌, ℕ, ◌+◌, ◌-◌, arith, needs}
+use Rattle.std.specs.Prelude.{◌+◌, ◌-◌}
+use Rattle.laws.specs.Usual.{sym, ap, ◌∙◌, ℕ, arith, needs}
 use Rattle.settle_run.specs.declared.Running.{Running}
 use Rattle.settle_run.specs.declared.Settled.{Settled}
 use Rattle.settle_run.specs.Counted.{running_after}

@@ -1,7 +1,9 @@
 -- `settle_last::skip` meets its contract.
-use Rattle.laws.specs.Usual.{◌≡◌, refl, ap, ◌∙◌, ℕ, suc, ◌-◌, arith, needs}
+use Rattle.std.specs.Prelude.{◌≡◌, ◌-◌}
+use Rattle.laws.specs.Usual.{refl, ap, ◌∙◌, ℕ, suc, arith, needs}
 use Rattle.settle_run.specs.Running.{running_in}
-use Rattle.settle_run.specs.Counted.{running_after, advanced}
+use Rattle.settle_run.specs.Counted.{running_after}
+use Rattle.settle_run.proofs.Counted.{advanced}
 use Rattle.settle_last.proofs.skip.Statement.{statement}
 use Rattle.settle_last.proofs.skip.Tie as tie
 

@@ -1,5 +1,6 @@
 -- `settle_next::first_listed` meets its contract.
-use Rattle.laws.specs.Usual.{◌≡◌, refl, sym, ◌∙◌, ◌-◌, arith, length, drop, needs}
+use Rattle.std.specs.Prelude.{◌≡◌, ◌-◌}
+use Rattle.laws.specs.Usual.{refl, sym, ◌∙◌, arith, length, drop, needs}
 use Rattle.settle_moves.specs.Moves.{first_listed}
 use Rattle.settle_moves.specs.Loops.{listed_end, listed_skip, listed_first}
 use Rattle.settle_next.proofs.first_listed.Statement.{statement}

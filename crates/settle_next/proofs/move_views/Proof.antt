@@ -1,5 +1,6 @@
 -- `settle_next::move_views` meets its contract.
-use Rattle.laws.specs.Usual.{◌≡◌, refl, ap, ◌∙◌, List, ℕ, ◌-◌, ◌<◌, arith, length, get_or, set, needs}
+use Rattle.std.specs.Prelude.{◌≡◌, ◌-◌, ◌<◌}
+use Rattle.laws.specs.Usual.{refl, ap, ◌∙◌, List, ℕ, arith, length, get_or, set, needs}
 use lib.ListN.{length-set}
 use Rattle.settling.specs.Ring.{silence}
 use Rattle.settle_views.specs.Views.{ring_with, stations_from}

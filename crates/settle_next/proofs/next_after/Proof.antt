@@ -1,5 +1,6 @@
 -- `settle_next::next_after` meets its contract.
-use Rattle.laws.specs.Usual.{◌≡◌, refl, ◌∙◌, arith, length, needs}
+use Rattle.std.specs.Prelude.{◌≡◌}
+use Rattle.laws.specs.Usual.{refl, ◌∙◌, arith, length, needs}
 use Rattle.settle_moves.specs.Found.{next_found, next_placed}
 use Rattle.settle_next.proofs.next_after.Statement.{statement}
 use Rattle.settle_next.proofs.next_after.Tie as tie

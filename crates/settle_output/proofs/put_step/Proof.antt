@@ -1,5 +1,6 @@
 -- `settle_output::put_step` meets its contract.
-use Rattle.laws.specs.Usual.{ap, ◌∙◌, [], ◌∷◌, ℕ, needs}
+use Rattle.std.specs.Prelude.{◌∷◌}
+use Rattle.laws.specs.Usual.{ap, ◌∙◌, [], ℕ, needs}
 use Rattle.text.specs.Lines.{line_of}
 use Rattle.settle_output.specs.Output.{written_to, length_in}
 use Rattle.settle_output.proofs.put_step.Statement.{statement}

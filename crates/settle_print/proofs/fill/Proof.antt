@@ -1,5 +1,6 @@
 -- `settle_print::fill` meets its contract.
-use Rattle.laws.specs.Usual.{◌≡◌, refl, sym, ap, ap₂, subst, ◌∙◌, Bool, true, false, ◌&&◌, List, ℕ, ◌+◌, ◌-◌, ◌≤◌, arith, length, take, drop, leb, needs}
+use Rattle.std.specs.Prelude.{◌≡◌, ◌&&◌, ◌+◌, ◌-◌, ◌≤◌}
+use Rattle.laws.specs.Usual.{refl, sym, ap, ap₂, subst, ◌∙◌, Bool, true, false, List, ℕ, arith, length, take, drop, leb, needs}
 use lib.ListN.{length-take, length-drop}
 use borrow.Rule.Slice.PartMut.{put_mid}
 use Rattle.copying.specs.Laws.{paste_nothing, paste_append, paste_part, length_pasted}

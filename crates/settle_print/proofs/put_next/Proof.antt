@@ -1,5 +1,6 @@
 -- `settle_print::put_next` meets its contract.
-use Rattle.laws.specs.Usual.{◌≡◌, sym, ap, ◌∙◌, List, ℕ, length, needs}
+use Rattle.std.specs.Prelude.{◌≡◌}
+use Rattle.laws.specs.Usual.{sym, ap, ◌∙◌, List, ℕ, length, needs}
 use borrow.Author.Tests.{le-ltb}
 use Rattle.copying.specs.Laws.{paste_nothing}
 use Rattle.copying.specs.Pasted.{pasted}

@@ -3,7 +3,7 @@ use Rattle.laws.specs.Usual.{refl, sym, ap, ap₂, ◌∙◌, Bool, ℕ, length,
 use borrow.Author.Tests.{le-ltb}
 use Rattle.copying.specs.Pasted.{pasted}
 use Rattle.settle_output.specs.Output.{room, step_line}
-use Rattle.settle_run.specs.Counted.{advanced, some_left}
+use Rattle.settle_run.proofs.Counted.{advanced, some_left}
 use Rattle.settle_run.specs.declared.Running.{Running}
 use Rattle.settle_run.specs.declared.Stepped.{Stepped}
 use Rattle.settle_rest.specs.declared.Stage.TheVariants.{Run, Over}

@@ -3,7 +3,7 @@ use Rattle.laws.specs.Usual.{sym, ap, ◌∙◌, ℕ, needs}
 use Rattle.settle_run.specs.Running.{added_by}
 use Rattle.settle_run.specs.declared.Kind.{Kind}
 use Rattle.settle_run.proofs.add.Statement.{statement}
-use Rattle.settle_run.proofs.add.Tie as tie
+use Rattle.settle_run.specs.add.Tie as tie
 
 enum_told : tie.Need-enum-told
 enum_told c = search needs

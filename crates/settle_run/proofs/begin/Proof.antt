@@ -1,7 +1,7 @@
 -- `settle_run::begin` meets its contract.
 use Rattle.laws.specs.Usual.{needs}
 use Rattle.settle_run.proofs.begin.Statement.{statement}
-use Rattle.settle_run.proofs.begin.Tie as tie
+use Rattle.settle_run.specs.begin.Tie as tie
 
 count_requires : tie.Need-count-requires
 count_requires c κs = search needs

@@ -1,7 +1,7 @@
 -- `settle_run::has_ended` meets its contract.
 use mathlib.Core.Path.{refl}
 use Rattle.settle_run.proofs.has_ended.Statement.{statement}
-use Rattle.settle_run.proofs.has_ended.Tie as tie
+use Rattle.settle_run.specs.has_ended.Tie as tie
 
 returns : tie.Need-returns
 returns c = refl

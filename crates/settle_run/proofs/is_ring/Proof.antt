@@ -2,7 +2,7 @@
 
 use borrow.Author.Rules.{rules}
 use Rattle.settle_run.proofs.is_ring.Statement.{statement}
-use Rattle.settle_run.proofs.is_ring.Tie as tie
+use Rattle.settle_run.specs.is_ring.Tie as tie
 
 first_unlisted_requires : tie.Need-first-unlisted-requires
 first_unlisted_requires c κs = tt

@@ -1,8 +1,9 @@
 -- `settle_run::limit` meets its contract.
-use Rattle.laws.specs.Usual.{sym, ap, ◌∙◌, ℕ, ◌*◌, arith, needs}
-use Rattle.settle_run.specs.Counted.{square_most}
+use Rattle.std.specs.Prelude.{◌*◌}
+use Rattle.laws.specs.Usual.{sym, ap, ◌∙◌, ℕ, arith, needs}
+use Rattle.settle_run.proofs.Counted.{square_most}
 use Rattle.settle_run.proofs.limit.Statement.{statement}
-use Rattle.settle_run.proofs.limit.Tie as tie
+use Rattle.settle_run.specs.limit.Tie as tie
 
 stations_requires : tie.Need-stations-requires
 stations_requires c κs = search needs

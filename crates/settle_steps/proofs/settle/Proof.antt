@@ -1,5 +1,6 @@
 -- `settle_steps::settle` meets its contract.
-use Rattle.laws.specs.Usual.{◌≡◌, refl, sym, ap, subst, ◌∙◌, false, ℕ, ◌-◌, ◌<◌, ◌≤◌, arith, length, get_or, needs}
+use Rattle.std.specs.Prelude.{◌≡◌, ◌-◌, ◌<◌, ◌≤◌}
+use Rattle.laws.specs.Usual.{refl, sym, ap, subst, ◌∙◌, false, ℕ, arith, length, get_or, needs}
 use borrow.Author.Tests.{not-true, not-false}
 use mir.Val.{Fits}
 use mir.Syntax.{w8}
@@ -7,8 +8,8 @@ use Rattle.settle_views.specs.Views.{stations_of}
 use Rattle.settle_run.specs.declared.Running.{Running}
 use Rattle.settle_run.specs.Run.{settled_of, Bounded}
 use Rattle.settle_run.specs.Running.{has_ended, running_in, end_from}
-use Rattle.settle_run.specs.Whole.{settled_bounded}
-use Rattle.settle_run.specs.Counted.{advanced, some_left, end_more, end_over, run_ends}
+use Rattle.settle_run.proofs.Whole.{settled_bounded}
+use Rattle.settle_run.proofs.Counted.{advanced, some_left, end_more, end_over, run_ends}
 use Rattle.settle_steps.proofs.settle.Statement.{statement}
 use Rattle.settle_steps.proofs.settle.Tie as tie
 

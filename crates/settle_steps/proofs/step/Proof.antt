@@ -1,5 +1,6 @@
 -- `settle_steps::step` meets its contract.
-use Rattle.laws.specs.Usual.{◌≡◌, sym, ap, ◌∙◌, Bool, cond, List, ℕ, arith, get_or, map, needs}
+use Rattle.std.specs.Prelude.{◌≡◌}
+use Rattle.laws.specs.Usual.{sym, ap, ◌∙◌, Bool, cond, List, ℕ, arith, get_or, map, needs}
 use borrow.Author.Tests.{eq-eqb, ne_eqb}
 use Rattle.settling.specs.Ring.{Event, pass, silence}
 use Rattle.settle_views.specs.Views.{ring_with, stations_of}
@@ -7,7 +8,7 @@ use Rattle.settle_views.specs.declared.Ring.{Ring}
 use Rattle.settle_moves.specs.Moves.{passed_view, view_after, moved}
 use Rattle.settle_moves.specs.Each.{at_each}
 use Rattle.settle_counts.specs.Counts.{above_zero, carried_numbers}
-use Rattle.settle_counts.specs.Sums.{carried_same}
+use Rattle.settle_counts.proofs.Sums.{carried_same}
 use Rattle.settle_run.specs.Run.{pass_by, event_in, stepped_by}
 use Rattle.settle_run.specs.Running.{numbers_after, stepped_with}
 use Rattle.settle_run.specs.declared.Kind.TheVariants.{Pass}

@@ -1,5 +1,6 @@
 -- `settle_write::write_rest` meets its contract.
-use Rattle.laws.specs.Usual.{◌≡◌, sym, ap, ◌∙◌, false, arith, length, needs}
+use Rattle.std.specs.Prelude.{◌≡◌}
+use Rattle.laws.specs.Usual.{sym, ap, ◌∙◌, false, arith, length, needs}
 use borrow.Author.Tests.{not-true}
 use Rattle.settle_rest.specs.Rest.{is_over}
 use Rattle.settle_print.specs.Parts.{lines_left}

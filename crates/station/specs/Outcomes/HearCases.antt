@@ -1,21 +1,19 @@
 -- The outcomes of hearing a frame, each with what led there and what is left: whatever is proved of hearing goes by these. Assumes nothing.
-use Rattle.laws.specs.Usual.{◌≡◌, refl, sym, ap, ◌∙◌, Bool, true, false, cond, not, ◌&&◌, ◌||◌, List, ℕ, length, eqb}
-use Rattle.std.proofs.lemmas.Bool.{not-false}
+use Rattle.std.specs.Prelude.{◌≡◌, ◌&&◌}
+use Rattle.laws.specs.Usual.{Bool, true, false, List, ℕ, length, eqb}
 use Rattle.block.specs.Blocks.{start_of}
 use Rattle.copying.specs.Pasted.{pasted}
 use Rattle.frame.specs.Codes.{is_token, is_cyclic}
 use Rattle.frame.specs.declared.Code.TheVariants.{Token, Cyclic, Request, Trigger}
-use Rattle.frame.specs.declared.Refusal.TheVariants as refusals
-use Rattle.laws.specs.Tests.{first, second, implied}
 use Rattle.members.specs.Members.{entry_of, is_listed}
-use Rattle.frame_reading.specs.Reading.{and_then, read_header_of, read_body_of, read_of, data_of}
-use Rattle.frame_round_trip.specs.Accepted.{Accepted, accepted as passed, bodied}
-use Rattle.station.specs.Rules.Data.{Gathered, turn_written, same_areas, is_next, is_repeat, repeated, dropped, gathered}
-use Rattle.station.specs.Rules.Hearing.{Hearing, requested, enters, enters_answer, participant_heard, accepted, is_taken, knows, is_stranger, lent_right, refused, body_heard, header_heard, hear_of}
+use Rattle.frame_reading.specs.Reading.{read_header_of, read_body_of, data_of}
+use Rattle.station.specs.Rules.Data.{Gathered, turn_written, same_areas, is_next, is_repeat, repeated, dropped}
+use Rattle.station.specs.Rules.Hearing.{Hearing, requested, participant_heard, is_taken, knows, is_stranger, lent_right, refused}
 use Rattle.station.specs.Rules.Starting.{joined_by}
-use Rattle.station.specs.Rules.State.{is_off, is_participating, nothing, fresh, stopped}
+use Rattle.station.specs.Rules.State.{is_participating, nothing, fresh, stopped}
+use Rattle.station.specs.Types.{Fields, Code, Refusal, Frame, Phase, Off, Listening, Startup, Joining, Participating, Station, Kept, Written, Dropped, Heard}
+use Rattle.frame.specs.declared.Refusal.TheVariants as refusals
 use Rattle.station.specs.declared.Heard.TheVariants as answers
-use Rattle.station.specs.Types.{Areas, Fields, Code, Refusal, Read, Frame, Refused, Phase, Off, Listening, Startup, Joining, Participating, Station, Kept, Written, Dropped, Heard}
 use Rattle.station.specs.declared.Token.TheVariants as tokens
 
 -- a frame that no refusal met
@@ -41,205 +39,61 @@ repeats? station frame octets assembly = is_repeat station.gathering frame (data
 
 -- what becomes of its data: the turn is written, or the block kept, or it is a repeat, or all dropped
 pub data GatherCases (station : Station) (frame : Fields) (octets memory assembly : List ℕ) : Gathered → Type 0 where
-  writes : same_areas frame.areas (entry_of station.members frame.source).areas ≡ true → repeats? station frame octets assembly ≡ false
+  pub writes : same_areas frame.areas (entry_of station.members frame.source).areas ≡ true → repeats? station frame octets assembly ≡ false
       → is_next station.gathering frame ≡ true → eqb frame.block frame.blocks ≡ true → GatherCases station frame octets memory assembly (record {
         gathering = nothing;
         assembly = pasted assembly (start_of frame.block) (data_of octets frame);
         memory = turn_written (entry_of station.members frame.source).areas (pasted assembly (start_of frame.block) (data_of octets frame)) memory;
         outcome = Written;
       })
-  keeps : same_areas frame.areas (entry_of station.members frame.source).areas ≡ true → repeats? station frame octets assembly ≡ false
+  pub keeps : same_areas frame.areas (entry_of station.members frame.source).areas ≡ true → repeats? station frame octets assembly ≡ false
       → is_next station.gathering frame ≡ true → eqb frame.block frame.blocks ≡ false → GatherCases station frame octets memory assembly (record {
         gathering = record { source = frame.source; blocks = frame.block };
         assembly = pasted assembly (start_of frame.block) (data_of octets frame);
         memory = memory;
         outcome = Kept;
       })
-  repeats : same_areas frame.areas (entry_of station.members frame.source).areas ≡ true → repeats? station frame octets assembly ≡ true
+  pub repeats : same_areas frame.areas (entry_of station.members frame.source).areas ≡ true → repeats? station frame octets assembly ≡ true
       → GatherCases station frame octets memory assembly (repeated station.gathering assembly memory)
-  drops : (same_areas frame.areas (entry_of station.members frame.source).areas && repeats? station frame octets assembly) ≡ false
+  pub drops : (same_areas frame.areas (entry_of station.members frame.source).areas && repeats? station frame octets assembly) ≡ false
       → GatherCases station frame octets memory assembly (dropped assembly memory)
 
 -- the phases in which a token frame begins joining, and those in which a request is listed
 pub data Awaits : Phase → Type 0 where
-  listening_awaits : Awaits Listening
-  startup_awaits : Awaits Startup
+  pub listening_awaits : Awaits Listening
+  pub startup_awaits : Awaits Startup
 
 pub data Lists : Phase → Type 0 where
-  startup_lists : Lists Startup
-  participant_lists : Lists Participating
+  pub startup_lists : Lists Startup
+  pub participant_lists : Lists Participating
 
 -- the frames, but for cyclic ones, that no rule names for the phase
 pub data Unnamed : Phase → Code → Type 0 where
-  listening_request : Unnamed Listening Request
-  startup_trigger : Unnamed Startup Trigger
-  joining_request : Unnamed Joining Request
-  joining_trigger : Unnamed Joining Trigger
-  participating_trigger : Unnamed Participating Trigger
+  pub listening_request : Unnamed Listening Request
+  pub startup_trigger : Unnamed Startup Trigger
+  pub joining_request : Unnamed Joining Request
+  pub joining_trigger : Unnamed Joining Trigger
+  pub participating_trigger : Unnamed Participating Trigger
 
 -- what any other frame that no refusal met leaves, and its answer
 pub data EnterCases (station : Station) (frame : Fields) : Station → Heard → Type 0 where
-  off : station.phase ≡ Off → EnterCases station frame station answers.Off
-  begins : station.phase ≡ Listening → frame.code ≡ Trigger → EnterCases station frame (fresh Startup station.own) answers.Done
-  joins : Awaits station.phase → frame.code ≡ Token
+  pub off : station.phase ≡ Off → EnterCases station frame station answers.Off
+  pub begins : station.phase ≡ Listening → frame.code ≡ Trigger → EnterCases station frame (fresh Startup station.own) answers.Done
+  pub joins : Awaits station.phase → frame.code ≡ Token
       → EnterCases station frame (joined_by (fresh Joining station.own) frame) (answers.Cyclic (tokens.None Dropped))
-  passes : Awaits station.phase → frame.code ≡ Cyclic → EnterCases station frame station (answers.Cyclic (tokens.None Dropped))
-  reads : station.phase ≡ Joining → is_cyclic frame.code ≡ true
+  pub passes : Awaits station.phase → frame.code ≡ Cyclic → EnterCases station frame station (answers.Cyclic (tokens.None Dropped))
+  pub reads : station.phase ≡ Joining → is_cyclic frame.code ≡ true
       → EnterCases station frame (joined_by station frame) (answers.Cyclic (tokens.None Dropped))
-  lists : Lists station.phase → frame.code ≡ Request → EnterCases station frame (requested station frame) answers.Done
-  ignores : Unnamed station.phase frame.code → EnterCases station frame station answers.Done
+  pub lists : Lists station.phase → frame.code ≡ Request → EnterCases station frame (requested station frame) answers.Done
+  pub ignores : Unnamed station.phase frame.code → EnterCases station frame station answers.Done
 
 -- what hearing leaves
 pub data HearCases (station : Station) (octets memory assembly : List ℕ) : Hearing → Type 0 where
   -- any refusal, but number 6 before we participate
-  refuses : (refusal : Refusal) → HearCases station octets memory assembly (refused station memory assembly refusal)
-  turns_off : is_participating station.phase ≡ false
+  pub refuses : (refusal : Refusal) → HearCases station octets memory assembly (refused station memory assembly refusal)
+  pub turns_off : is_participating station.phase ≡ false
       → HearCases station octets memory assembly (refused (stopped station) memory assembly refusals.Taken)
-  gathers : (frame : Fields) {after : Gathered} → FromMember station octets memory assembly frame → GatherCases station frame octets memory assembly after
+  pub gathers : (frame : Fields) {after : Gathered} → FromMember station octets memory assembly frame → GatherCases station frame octets memory assembly after
       → HearCases station octets memory assembly (participant_heard station frame after)
-  heeds : (frame : Fields) {left : Station} {answer : Heard} → Accepts station octets memory assembly frame → EnterCases station frame left answer
+  pub heeds : (frame : Fields) {left : Station} {answer : Heard} → Accepts station octets memory assembly frame → EnterCases station frame left answer
       → HearCases station octets memory assembly (record { station = left; answer = answer; memory = memory; assembly = assembly })
-
--- octets that pass both parts of the reading pass every test
-pub read_both : (octets : List ℕ) (frame : Fields) → read_header_of octets ≡ Frame frame → read_body_of (length octets) frame ≡ Frame frame → Accepted octets frame
-unfolding read_of
-read_both octets frame h b = passed octets frame (ap (λ (r : Read). and_then r (read_body_of (length octets))) h ∙ b)
-
--- a frame that no refusal met did,
-pub whole_of : {station : Station} {octets memory assembly : List ℕ} {frame : Fields} → Accepts station octets memory assembly frame → Accepted octets frame
-whole_of {octets = octets} {frame = frame} ok = read_both octets frame ok.header ok.body
-
--- and is of another station, unless we are off
-pub other_of : {station : Station} {octets memory assembly : List ℕ} {frame : Fields} → Accepts station octets memory assembly frame
-    → is_off station.phase ≡ false → eqb frame.source station.own.number ≡ false
-other_of ok on = rw on at ok.untaken
-
-pub awaits_on : {phase : Phase} → Awaits phase → is_off phase ≡ false
-awaits_on listening_awaits = refl
-awaits_on startup_awaits = refl
-
-pub awaits_outside : {phase : Phase} → Awaits phase → is_participating phase ≡ false
-awaits_outside listening_awaits = refl
-awaits_outside startup_awaits = refl
-
-pub lists_on : {phase : Phase} → Lists phase → is_off phase ≡ false
-lists_on startup_lists = refl
-lists_on participant_lists = refl
-
-pub unnamed_plain : {phase : Phase} {code : Code} → Unnamed phase code → is_cyclic code ≡ false
-unnamed_plain listening_request = refl
-unnamed_plain startup_trigger = refl
-unnamed_plain joining_request = refl
-unnamed_plain joining_trigger = refl
-unnamed_plain participating_trigger = refl
-
-module _ (station : Station) (octets memory assembly : List ℕ) where
-  gather_cases : (frame : Fields)
-      → GatherCases station frame octets memory assembly (gathered station frame (data_of octets frame) assembly memory)
-  gather_cases frame =
-      by (same_areas frame.areas listed) refl (repeats? station frame octets assembly) refl (is_next station.gathering frame) refl
-      (eqb frame.block frame.blocks) refl
-    where
-      listed : Areas
-      listed = (entry_of station.members frame.source).areas
-
-      stored : List ℕ
-      stored = pasted assembly (start_of frame.block) (data_of octets frame)
-
-      by : (areas : Bool) → same_areas frame.areas listed ≡ areas → (again : Bool) → repeats? station frame octets assembly ≡ again
-          → (next : Bool) → is_next station.gathering frame ≡ next → (last : Bool) → eqb frame.block frame.blocks ≡ last
-          → GatherCases station frame octets memory assembly
-          (cond (not areas) (dropped assembly memory)
-          (cond again (repeated station.gathering assembly memory)
-          (cond next
-          (cond last
-          (record { gathering = nothing; assembly = stored; memory = turn_written listed stored memory; outcome = Written })
-          (record { gathering = record { source = frame.source; blocks = frame.block }; assembly = stored; memory = memory; outcome = Kept }))
-          (dropped assembly memory))))
-      by true a true r next n last l = repeats a r
-      by true a false r true n true l = writes a r n l
-      by true a false r true n false l = keeps a r n l
-      by true a false r false n last l = drops (rw (a, r))
-      by false a again r next n last l = drops (rw a)
-
-  from_member : (frame : Fields) → Accepts station octets memory assembly frame → station.phase ≡ Participating → is_cyclic frame.code ≡ true
-      → FromMember station octets memory assembly frame
-  from_member frame ok p c =
-      let other : eqb frame.source station.own.number ≡ false = rw p at ok.untaken in
-      let known : (knows station frame.source && (not (is_token frame.code) || knows station frame.destination)) ≡ true = not-false _ (rw (p, c) at ok.known) in
-      record {
-        accepts = ok;
-        participates = p;
-        cyclic = c;
-        other = other;
-        listed = rw other at (first (knows station frame.source) _ known);
-        destination = implied (is_token frame.code) (knows station frame.destination) (second (knows station frame.source) _ known);
-      }
-
-  accepted_cases : (frame : Fields) → Accepts station octets memory assembly frame
-      → HearCases station octets memory assembly (accepted station frame octets memory assembly)
-  accepted_cases frame ok = by station.phase refl frame.code refl
-    where
-      by : (phase : Phase) → station.phase ≡ phase → (code : Code) → frame.code ≡ code
-          → HearCases station octets memory assembly
-          (cond (is_participating phase && is_cyclic code)
-          (participant_heard station frame (gathered station frame (data_of octets frame) assembly memory))
-          (record { station = enters phase code station frame; answer = enters_answer phase code; memory = memory; assembly = assembly }))
-      by Off p code c = heeds frame ok (off p)
-      by Listening p Token c = heeds frame ok (joins (rw p listening_awaits) c)
-      by Listening p Cyclic c = heeds frame ok (passes (rw p listening_awaits) c)
-      by Listening p Request c = heeds frame ok (ignores (rw (p, c) listening_request))
-      by Listening p Trigger c = heeds frame ok (begins p c)
-      by Startup p Token c = heeds frame ok (joins (rw p startup_awaits) c)
-      by Startup p Cyclic c = heeds frame ok (passes (rw p startup_awaits) c)
-      by Startup p Request c = heeds frame ok (lists (rw p startup_lists) c)
-      by Startup p Trigger c = heeds frame ok (ignores (rw (p, c) startup_trigger))
-      by Joining p Token c = heeds frame ok (reads p (rw c))
-      by Joining p Cyclic c = heeds frame ok (reads p (rw c))
-      by Joining p Request c = heeds frame ok (ignores (rw (p, c) joining_request))
-      by Joining p Trigger c = heeds frame ok (ignores (rw (p, c) joining_trigger))
-      by Participating p Token c = gathers frame (from_member frame ok p (rw c)) (gather_cases frame)
-      by Participating p Cyclic c = gathers frame (from_member frame ok p (rw c)) (gather_cases frame)
-      by Participating p Request c = heeds frame ok (lists (rw p participant_lists) c)
-      by Participating p Trigger c = heeds frame ok (ignores (rw (p, c) participating_trigger))
-
-  body_cases : (header : Fields) → lent_right memory assembly ≡ true → read_header_of octets ≡ Frame header → is_taken station header ≡ false
-      → (read : Read) → read_body_of (length octets) header ≡ read → HearCases station octets memory assembly (body_heard station octets memory assembly read)
-  body_cases header l h t (Refused refusal) b = refuses refusal
-  body_cases header l h t (Frame frame) b = by (is_stranger station frame) refl
-    where
-      same : header ≡ frame
-      same = (bodied (length octets) header frame b).is_same
-
-      by : (stranger : Bool) → is_stranger station frame ≡ stranger → HearCases station octets memory assembly
-          (cond stranger (refused station memory assembly refusals.Stranger) (accepted station frame octets memory assembly))
-      by true s = refuses refusals.Stranger
-      by false s = accepted_cases frame (record {
-        lent = l;
-        header = h ∙ ap Frame same;
-        body = ap (read_body_of (length octets)) (sym same) ∙ b;
-        untaken = ap (is_taken station) (sym same) ∙ t;
-        known = s;
-      })
-
-  header_cases : lent_right memory assembly ≡ true → (read : Read) → read_header_of octets ≡ read
-      → HearCases station octets memory assembly (header_heard station octets memory assembly read)
-  header_cases l (Refused refusal) h = refuses refusal
-  header_cases l (Frame header) h = by (is_taken station header) refl (is_participating station.phase) refl
-    where
-      by : (taken : Bool) → is_taken station header ≡ taken → (participating : Bool) → is_participating station.phase ≡ participating
-          → HearCases station octets memory assembly
-          (cond taken
-          (refused (cond participating station (stopped station)) memory assembly refusals.Taken)
-          (body_heard station octets memory assembly (read_body_of (length octets) header)))
-      by true t true p = refuses refusals.Taken
-      by true t false p = turns_off p
-      by false t participating p = body_cases header l h t (read_body_of (length octets) header) refl
-
-  pub hear_cases : HearCases station octets memory assembly (hear_of station octets memory assembly)
-  hear_cases = by (lent_right memory assembly) refl
-    where
-      by : (right : Bool) → lent_right memory assembly ≡ right → HearCases station octets memory assembly
-          (cond right (header_heard station octets memory assembly (read_header_of octets)) (refused station memory assembly refusals.Buffer))
-      by true l = header_cases l (read_header_of octets) refl
-      by false l = refuses refusals.Buffer

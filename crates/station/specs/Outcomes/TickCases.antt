@@ -1,85 +1,43 @@
 -- The outcomes of a tick, each with what led there and what is left: whatever is proved of a tick goes by these. Assumes nothing.
-use Rattle.laws.specs.Usual.{◌≡◌, refl, Bool, true, false, cond, List, [], ◌∷◌, ℕ, eqb, leb}
-use Rattle.members.specs.Members.{numbers_of, smallest}
+use Rattle.std.specs.Prelude.{◌≡◌}
+use Rattle.laws.specs.Usual.{[], true, false, eqb, leb}
+use Rattle.members.specs.Members.{smallest}
 use Rattle.panel.specs.Panel.{ticked}
-use Rattle.station.specs.Rules.Starting.{started_up}
 use Rattle.station.specs.Rules.State.{fresh, begun, counted}
-use Rattle.station.specs.Rules.Ticking.{Ticking, later, falls_due, joining_wait, watch_ended, watch_ends, ticked_by, tick_answer, tick_of}
+use Rattle.station.specs.Rules.Ticking.{Ticking, later, falls_due, joining_wait, watch_ended, watch_ends}
 use Rattle.station.specs.Rules.Waits.{detection_wait, acceptance_time, number_wait, listening_time, longest_watch}
-use Rattle.station.specs.Types.{Phase, Off, Listening, Startup, Joining, Participating, Station}
+use Rattle.station.specs.Types.{Off, Listening, Startup, Joining, Participating, Station}
 use Rattle.station.specs.declared.Ticked.TheVariants as answers
 
-abbrev done : Station → Ticking
+abbrev pub done : Station → Ticking
 done station = record { station = station; answer = answers.Done }
 
 -- what a tick leaves
 pub data TickCases (station : Station) : Ticking → Type 0 where
-  off : station.phase ≡ Off → TickCases station (record { station = station; answer = answers.Off })
-  listens : station.phase ≡ Listening
+  pub off : station.phase ≡ Off → TickCases station (record { station = station; answer = answers.Off })
+  pub listens : station.phase ≡ Listening
       → TickCases station
       (done (counted station station.own (later (listening_time station.own.number) station.elapsed) station.waited station.panel))
   -- ring startup goes on, or ends with nobody listed, or with somebody
-  starts : station.phase ≡ Startup → leb acceptance_time (later acceptance_time station.elapsed).0 ≡ false
+  pub starts : station.phase ≡ Startup → leb acceptance_time (later acceptance_time station.elapsed).0 ≡ false
       → TickCases station
       (done
       (counted station (falls_due station station.elapsed (later acceptance_time station.elapsed)) (later acceptance_time station.elapsed)
       station.waited station.panel))
-  lapses : station.phase ≡ Startup → leb acceptance_time (later acceptance_time station.elapsed).0 ≡ true
+  pub lapses : station.phase ≡ Startup → leb acceptance_time (later acceptance_time station.elapsed).0 ≡ true
       → TickCases station (done (fresh Listening station.own))
-  begins : station.phase ≡ Startup → leb acceptance_time (later acceptance_time station.elapsed).0 ≡ true
+  pub begins : station.phase ≡ Startup → leb acceptance_time (later acceptance_time station.elapsed).0 ≡ true
       → TickCases station (done (begun station.own station.members (smallest station.own.number station.members)))
   -- joining ends without a token, or goes on before the third round has ended, or after it
-  gives_up : station.phase ≡ Joining → leb detection_wait (later detection_wait station.elapsed).0 ≡ true
+  pub gives_up : station.phase ≡ Joining → leb detection_wait (later detection_wait station.elapsed).0 ≡ true
       → TickCases station (done (fresh Listening station.own))
-  learns : station.phase ≡ Joining → leb detection_wait (later detection_wait station.elapsed).0 ≡ false → eqb station.rounds 3 ≡ false
+  pub learns : station.phase ≡ Joining → leb detection_wait (later detection_wait station.elapsed).0 ≡ false → eqb station.rounds 3 ≡ false
       → TickCases station (done (joining_wait station (later detection_wait station.elapsed) station.waited))
-  waits : station.phase ≡ Joining → leb detection_wait (later detection_wait station.elapsed).0 ≡ false → eqb station.rounds 3 ≡ true
+  pub waits : station.phase ≡ Joining → leb detection_wait (later detection_wait station.elapsed).0 ≡ false → eqb station.rounds 3 ≡ true
       → TickCases station
       (done (joining_wait station (later detection_wait station.elapsed) (later (number_wait station.own.number) station.waited)))
   -- a participant's watch ends, or runs
-  ends : station.phase ≡ Participating → watch_ends station ≡ true → TickCases station (done (watch_ended station))
-  runs : station.phase ≡ Participating → watch_ends station ≡ false
+  pub ends : station.phase ≡ Participating → watch_ends station ≡ true → TickCases station (done (watch_ended station))
+  pub runs : station.phase ≡ Participating → watch_ends station ≡ false
       → TickCases station
       (done (counted station station.own (later longest_watch station.elapsed) station.waited (ticked station.panel)))
-
-module _ (station : Station) where
-  startup_cases : station.phase ≡ Startup → (ended : Bool) → leb acceptance_time (later acceptance_time station.elapsed).0 ≡ ended → (numbers : List ℕ)
-      → TickCases station
-      (done
-      (cond ended
-      (started_up station.own station.members numbers)
-      (counted station (falls_due station station.elapsed (later acceptance_time station.elapsed)) (later acceptance_time station.elapsed)
-      station.waited station.panel)))
-  startup_cases p true t [] = lapses p t
-  startup_cases p true t (number ∷ rest) = begins p t
-  startup_cases p false t numbers = starts p t
-
-  joining_cases : station.phase ≡ Joining → (ended : Bool) → leb detection_wait (later detection_wait station.elapsed).0 ≡ ended
-      → (third : Bool) → eqb station.rounds 3 ≡ third
-      → TickCases station
-      (done
-      (cond ended
-      (fresh Listening station.own)
-      (joining_wait station (later detection_wait station.elapsed) (cond third (later (number_wait station.own.number) station.waited) station.waited))))
-  joining_cases p true t third r = gives_up p t
-  joining_cases p false t true r = waits p t r
-  joining_cases p false t false r = learns p t r
-
-  participant_cases : station.phase ≡ Participating → (ended : Bool) → watch_ends station ≡ ended
-      → TickCases station
-      (done
-      (cond ended
-      (watch_ended station)
-      (counted station station.own (later longest_watch station.elapsed) station.waited (ticked station.panel))))
-  participant_cases p true t = ends p t
-  participant_cases p false t = runs p t
-
-  pub tick_cases : TickCases station (tick_of station)
-  tick_cases = by station.phase refl
-    where
-      by : (phase : Phase) → station.phase ≡ phase → TickCases station (record { station = ticked_by phase station; answer = tick_answer phase })
-      by Off p = off p
-      by Listening p = listens p
-      by Startup p = startup_cases p (leb acceptance_time (later acceptance_time station.elapsed).0) refl (numbers_of station.members)
-      by Joining p = joining_cases p (leb detection_wait (later detection_wait station.elapsed).0) refl (eqb station.rounds 3) refl
-      by Participating p = participant_cases p (watch_ends station) refl

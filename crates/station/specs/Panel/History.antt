@@ -1,6 +1,7 @@
 -- Paper 01, "The panel", told from the list of calls since off and the views before and after each. Nothing here looks at the panel that the
 -- state carries.
-use Rattle.laws.specs.Usual.{Bool, true, false, cond, not, ◌&&◌, ◌||◌, List, [], ◌∷◌, ℕ, suc, ◌-◌, eqb, ltb}
+use Rattle.std.specs.Prelude.{◌&&◌, ◌||◌, ◌∷◌, ◌-◌}
+use Rattle.laws.specs.Usual.{[], Bool, true, false, cond, not, List, ℕ, suc, eqb, ltb}
 use Rattle.frame.specs.Codes.{is_token}
 use Rattle.panel.specs.declared.Figure.TheVariants.{Nothing, Over, Gap}
 use Rattle.station.specs.Rules.Asking.{ask_of, due_fields}

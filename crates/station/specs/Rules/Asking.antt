@@ -1,9 +1,9 @@
 -- Asking for a frame (paper 01, "Starting and joining", "The token view and the watch").
-use Rattle.laws.specs.Usual.{Bool, false, cond, not, ◌&&◌, List, ℕ, ◌+◌, length, drop, eqb, leb, ltb}
+use Rattle.std.specs.Prelude.{◌&&◌, ◌+◌}
+use Rattle.laws.specs.Usual.{Bool, false, cond, not, List, ℕ, length, drop, eqb, leb, ltb}
 use Rattle.area.specs.Areas.{in_range, memory_octets}
 use Rattle.block.specs.Blocks.{blocks_of, start_of}
 use Rattle.copying.specs.Pasted.{pasted}
-use Rattle.frame.specs.declared.Refusal.TheVariants as refusals
 use Rattle.members.specs.Members.{next_after}
 use Rattle.panel.specs.Panel.{after_taking}
 use Rattle.frame_round_trip.specs.Sent.{block_fields, request_fields, trigger_fields}
@@ -11,8 +11,9 @@ use Rattle.frame_writing.specs.Writing.{whole_length, output_of}
 use Rattle.station.specs.Rules.Data.{turn_of}
 use Rattle.station.specs.Rules.Starting.{trigger_due, request_fallen}
 use Rattle.station.specs.Rules.State.{fresh, holds, begun, request_sent, moved}
-use Rattle.station.specs.declared.Asked.TheVariants as answers
 use Rattle.station.specs.Types.{Areas, Fields, Refusal, Settings, Phase, Off, Listening, Startup, Joining, Participating, Station, Asked}
+use Rattle.frame.specs.declared.Refusal.TheVariants as refusals
+use Rattle.station.specs.declared.Asked.TheVariants as answers
 
 -- the call: the state after it, the answer, and the lent buffers after it; the common memory is only read
 pub record Asking : Type 0 where

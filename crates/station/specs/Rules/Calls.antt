@@ -1,12 +1,13 @@
 -- All calls of a station, each with the buffers that are lent to it.
-use Rattle.laws.specs.Usual.{List, [], ◌∷◌, ℕ}
+use Rattle.std.specs.Prelude.{◌∷◌}
+use Rattle.laws.specs.Usual.{[], List, ℕ}
 use Rattle.station.specs.Rules.Asking.{ask_of}
 use Rattle.station.specs.Rules.Hearing.{hear_of}
 use Rattle.station.specs.Rules.Starting.{start_of, stop_of}
 use Rattle.station.specs.Rules.Ticking.{tick_of}
+use Rattle.station.specs.Types.{Refusal, Settings, Station, Switched, Heard, Asked}
 use Rattle.station.specs.declared.Asked.TheVariants as asked
 use Rattle.station.specs.declared.Heard.TheVariants as heard
-use Rattle.station.specs.Types.{Refusal, Settings, Station, Switched, Heard, Asked}
 use Rattle.station.specs.declared.Switched.TheVariants as switched
 
 -- a call with its arguments: hearing borrows the common memory and the assembly buffer, asking the common memory, the turn buffer and the

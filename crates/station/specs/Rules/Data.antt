@@ -1,5 +1,6 @@
 -- Paper 01, "Data": putting divided cyclic data together, and the copy that a turn is sent from; paper 02, E4: a block heard twice.
-use Rattle.laws.specs.Usual.{Bool, cond, not, ◌&&◌, ◌||◌, List, ◌++◌, ℕ, ◌+◌, ◌*◌, length, take, drop, eqb}
+use Rattle.std.specs.Prelude.{◌&&◌, ◌||◌, ◌++◌, ◌+◌, ◌*◌}
+use Rattle.laws.specs.Usual.{Bool, cond, not, List, ℕ, length, take, drop, eqb}
 use Rattle.area.specs.Areas.{span_of}
 use Rattle.area.specs.declared.Area.TheVariants.{One, Two}
 use Rattle.area.specs.declared.Span.{Span}

@@ -1,9 +1,9 @@
 -- Hearing a frame (paper 01, "Numbers the station answers with", "Starting and joining", "The token view and the watch", "Data").
-use Rattle.laws.specs.Usual.{Bool, cond, not, ◌&&◌, ◌||◌, List, ℕ, length, eqb}
+use Rattle.std.specs.Prelude.{◌&&◌, ◌||◌}
+use Rattle.laws.specs.Usual.{Bool, cond, not, List, ℕ, length, eqb}
 use Rattle.area.specs.Areas.{memory_octets}
 use Rattle.frame.specs.Codes.{is_token, is_cyclic}
 use Rattle.frame.specs.declared.Code.TheVariants.{Token, Cyclic, Request, Trigger}
-use Rattle.frame.specs.declared.Refusal.TheVariants as refusals
 use Rattle.members.specs.Listing.{listing}
 use Rattle.members.specs.Members.{is_listed, cleared}
 use Rattle.frame_reading.specs.Reading.{read_header_of, read_body_of, data_of}
@@ -11,8 +11,9 @@ use Rattle.station.specs.Rules.Data.{Gathered, gathered, without}
 use Rattle.station.specs.Rules.Starting.{ours_due, joined_by}
 use Rattle.station.specs.Rules.State.{is_off, is_participating, fresh, stopped, relisted}
 use Rattle.station.specs.Rules.Token.{view_heard, restarted, outcome_of}
-use Rattle.station.specs.declared.Heard.TheVariants as answers
 use Rattle.station.specs.Types.{Fields, Code, Refusal, Read, Frame, Refused, Phase, Off, Listening, Startup, Joining, Participating, Station, Dropped, Heard}
+use Rattle.frame.specs.declared.Refusal.TheVariants as refusals
+use Rattle.station.specs.declared.Heard.TheVariants as answers
 use Rattle.station.specs.declared.Token.TheVariants as tokens
 
 -- the call: the state after it, the answer, and the lent buffers after it

@@ -1,8 +1,8 @@
 -- Paper 01, "Starting and joining": start and stop, when our trigger and our request are due, and what joining reads.
-use Rattle.laws.specs.Usual.{Bool, true, false, cond, not, ◌&&◌, List, [], ◌∷◌, ℕ, ◌+◌, min, eqb, leb, ltb}
+use Rattle.std.specs.Prelude.{◌&&◌, ◌∷◌, ◌+◌}
+use Rattle.laws.specs.Usual.{[], Bool, true, false, cond, not, List, ℕ, min, eqb, leb, ltb}
 use Rattle.area.specs.Areas.{in_range}
 use Rattle.frame.specs.Codes.{is_token}
-use Rattle.frame.specs.declared.Refusal.TheVariants as refusals
 use Rattle.members.specs.Listing.{bare, overlaps_listed, listing}
 use Rattle.members.specs.Members.{smallest}
 use Rattle.frame_reading.specs.Reading.{is_station}
@@ -11,6 +11,7 @@ use Rattle.station.specs.Rules.State.{is_off, no_ticks, fresh, stopped, begun, l
 use Rattle.station.specs.Rules.Waits.{number_wait, listening_time}
 use Rattle.station.specs.Types.{Areas, Fields, Refusal, Members, Settings, Phase, Off, Listening, Startup, Joining, Participating, Station, Switched}
 use Rattle.station.specs.declared.Switched.TheVariants.{Done, Refused}
+use Rattle.frame.specs.declared.Refusal.TheVariants as refusals
 
 -- a call of start or stop: the state after it, and the answer
 pub record Switching : Type 0 where

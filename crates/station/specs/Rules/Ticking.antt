@@ -1,5 +1,6 @@
 -- A tick (paper 01, "Starting and joining", "The token view and the watch").
-use Rattle.laws.specs.Usual.{Bool, cond, not, ◌&&◌, ◌||◌, ℕ, ◌+◌, min, eqb, leb, ltb}
+use Rattle.std.specs.Prelude.{◌&&◌, ◌||◌, ◌+◌}
+use Rattle.laws.specs.Usual.{Bool, cond, not, ℕ, min, eqb, leb, ltb}
 use Rattle.members.specs.Members.{numbers_of, entry_of, next_after, is_listed, strikes, missed}
 use Rattle.panel.specs.Panel.{ticked}
 use Rattle.station.specs.Rules.Data.{without}

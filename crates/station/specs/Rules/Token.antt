@@ -1,6 +1,7 @@
 -- Paper 01, "The token view and the watch". "View", "taking" and "silence" are the paper's own terms: a participant's view is the number it
 -- takes to be the holder.
-use Rattle.laws.specs.Usual.{Bool, cond, not, ◌&&◌, ℕ, min, eqb}
+use Rattle.std.specs.Prelude.{◌&&◌}
+use Rattle.laws.specs.Usual.{Bool, cond, not, ℕ, min, eqb}
 use Rattle.frame.specs.Codes.{is_token}
 use Rattle.panel.specs.Panel.{after_taking}
 use Rattle.station.specs.Rules.State.{moved}

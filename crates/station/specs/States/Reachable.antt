@@ -1,5 +1,6 @@
 -- The states that calls can leave since off, and what holds in each of them: the definitions alone.
-use Rattle.laws.specs.Usual.{◌≡◌, Bool, true, false, ◌&&◌, ℕ, ◌+◌, ◌<◌, ◌≤◌, length, get_or, eqb}
+use Rattle.std.specs.Prelude.{◌≡◌, ◌&&◌, ◌+◌, ◌<◌, ◌≤◌}
+use Rattle.laws.specs.Usual.{Bool, true, false, ℕ, length, get_or, eqb}
 use Rattle.area.specs.Areas.{in_range}
 use Rattle.block.specs.Blocks.{blocks_of}
 use Rattle.members.specs.Members.{entry_of, is_listed}

@@ -1,69 +1,11 @@
 -- A participant's view is its own number or a listed one, if it was so before: every call keeps this, but that who begins to participate from
 -- joining can begin with another view, the last token destination heard. Assumes nothing.
-use Rattle.laws.specs.Usual.{◌≡◌, refl, Bool, true, false, cond, false≢true, List, ℕ}
-use Rattle.station.specs.Outcomes.AskCases as on-asking
-use Rattle.station.specs.Rules.Calls.{Call, start, stop, tick, hear, ask, after}
-use Rattle.station.specs.Outcomes.HearCases.{off, begins, joins, passes, reads, lists, ignores, HearCases, refuses, turns_off, gathers, heeds, hear_cases}
-use Rattle.station.specs.Rules.Hearing.{Hearing}
-use Rattle.station.specs.States.KeepsEntering.{view_has}
-use Rattle.station.specs.States.Reachable.{Sound}
+use Rattle.std.specs.Prelude.{◌≡◌}
+use Rattle.laws.specs.Usual.{true}
 use Rattle.station.specs.Rules.State.{is_participating}
-use Rattle.station.specs.Outcomes.SwitchCases.{switched_to, start_cases, stop_cases}
-use Rattle.station.specs.Outcomes.TickCases as on-tick
-use Rattle.station.specs.Rules.Ticking.{Ticking}
-use Rattle.station.specs.Rules.Token.{view_heard}
-use Rattle.station.specs.States.ViewKept.{Known, known_ours, known_with, known_misses, next_known, smallest_known, missed_known}
-use Rattle.station.specs.Types.{Joining, Participating, Station}
-use Rattle.station.specs.Rules.Asking.{Asking, is_last, next_station}
+use Rattle.station.specs.States.ViewKept.{Known}
+use Rattle.station.specs.Types.{Station}
 
 -- a participant's view is its own number or a listed one
 abbrev pub Seen : Station → Type 0
 Seen station = is_participating station.phase ≡ true → Known station.own.number station.members station.view
-
-module _ (station : Station) (ok : Sound station) (seen : Seen station) (elsewhere : ¬ (station.phase ≡ Joining)) where
-  tick_seen : {result : Ticking} → on_tick.TickCases station result → Seen result.station
-  tick_seen (on_tick.off e) = seen
-  tick_seen (on_tick.listens e) = seen
-  tick_seen (on_tick.starts e t) = λ p. absurd (false≢true (rw e at p))
-  tick_seen (on_tick.lapses e t) = λ p. absurd (false≢true p)
-  tick_seen (on_tick.begins e t) = λ p. smallest_known ok.list
-  tick_seen (on_tick.gives_up e t) = absurd (elsewhere e)
-  tick_seen (on_tick.learns e t r) = absurd (elsewhere e)
-  tick_seen (on_tick.waits e t r) = absurd (elsewhere e)
-  tick_seen (on_tick.ends e t) = λ p. missed_known ok.list station.view (seen (rw e))
-  tick_seen (on_tick.runs e t) = seen
-
-  hear_seen : {octets memory assembly : List ℕ} {result : Hearing} → HearCases station octets memory assembly result → Seen result.station
-  hear_seen (refuses refusal) = seen
-  hear_seen (turns_off out) = λ p. absurd (false≢true p)
-  hear_seen (gathers frame from parts) =
-      λ z. known_misses station.own.number station.members frame.source 0 (view_heard station.view frame)
-      (view_has (Known station.own.number station.members) station.view frame (seen (rw from.participates)) from.destination)
-  hear_seen (heeds frame facts (off e)) = seen
-  hear_seen (heeds frame facts (begins e c)) = λ p. absurd (false≢true p)
-  hear_seen (heeds frame facts (joins e c)) = λ p. absurd (false≢true p)
-  hear_seen (heeds frame facts (passes e c)) = seen
-  hear_seen (heeds frame facts (reads e c)) = absurd (elsewhere e)
-  hear_seen (heeds frame facts (lists e c)) =
-      λ p. known_with station.own.number station.members frame.source _ station.view (λ same l. refl) (seen p)
-  hear_seen (heeds frame facts (ignores e)) = seen
-
-  sent_seen : station.phase ≡ Participating → (last : Bool)
-      → Known station.own.number station.members (cond last (next_station station) station.view)
-  sent_seen e true = next_known ok.list station.own.number (known_ours station.own.number station.members)
-  sent_seen e false = seen (rw e)
-
-  ask_seen : {memory turn output : List ℕ} {result : Asking} → on_asking.AskCases station memory turn output result → Seen result.station
-  ask_seen (on_asking.refuses refusal) = seen
-  ask_seen (on_asking.sends lent is (on_asking.triggers e due)) = λ p. absurd (false≢true p)
-  ask_seen (on_asking.sends lent is (on_asking.requests e fallen)) = seen
-  ask_seen (on_asking.sends lent is (on_asking.begins e fallen)) = absurd (elsewhere e)
-  ask_seen (on_asking.sends lent is (on_asking.passes e held placed)) = λ p. sent_seen e (is_last station)
-
-  -- every call keeps it, in every phase but joining
-  pub seen_kept : (call : Call) → Seen (after station call)
-  seen_kept (start own) = switched_to Seen (start_cases station own) seen (λ starts p. absurd (false≢true p))
-  seen_kept stop = switched_to Seen (stop_cases station) seen (λ on p. absurd (false≢true p))
-  seen_kept tick = tick_seen (on_tick.tick_cases station)
-  seen_kept (hear octets memory assembly) = hear_seen (hear_cases station octets memory assembly)
-  seen_kept (ask memory turn output) = ask_seen (on_asking.ask_cases station memory turn output)

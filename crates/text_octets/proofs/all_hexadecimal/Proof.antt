@@ -1,5 +1,6 @@
 -- `text_octets::all_hexadecimal` meets its contract.
-use Rattle.laws.specs.Usual.{◌≡◌, refl, sym, ◌∙◌, ◌-◌, length, drop, needs}
+use Rattle.std.specs.Prelude.{◌≡◌, ◌-◌}
+use Rattle.laws.specs.Usual.{refl, sym, ◌∙◌, length, drop, needs}
 use borrow.Author.Tests.{not-true, not-false}
 use Rattle.text_hexadecimal.specs.OctetLaws.{all_none, all_more, all_done}
 use Rattle.text_hexadecimal.specs.Octets.{all_hexadecimal}

@@ -1,5 +1,6 @@
 -- `text_octets::octet_at` meets its contract.
-use Rattle.laws.specs.Usual.{◌+◌, ◌*◌, arith, get_or, needs}
+use Rattle.std.specs.Prelude.{◌+◌, ◌*◌}
+use Rattle.laws.specs.Usual.{arith, get_or, needs}
 use Rattle.text_hexadecimal.specs.OctetLaws.{value_below}
 use Rattle.text_octets.proofs.octet_at.Statement.{statement}
 use Rattle.text_octets.proofs.octet_at.Tie as tie

@@ -1,5 +1,6 @@
 -- `text_octets::size_of` meets its contract.
-use Rattle.laws.specs.Usual.{sym, ap, ◌∙◌, Bool, cond, ◌&&◌, ◌/◌, length}
+use Rattle.std.specs.Prelude.{◌&&◌, ◌/◌}
+use Rattle.laws.specs.Usual.{sym, ap, ◌∙◌, Bool, cond, length}
 use Rattle.text_hexadecimal.specs.OctetLaws.{even, octets_length}
 use Rattle.text_octets.proofs.size_of.Statement.{statement}
 use Rattle.text_octets.proofs.size_of.Tie as tie

@@ -1,5 +1,6 @@
 -- `text_octets::unspell` meets its contract.
-use Rattle.laws.specs.Usual.{◌≡◌, refl, sym, ap, ap₂, ◌∙◌, List, ◌++◌, ℕ, ◌+◌, ◌-◌, ◌≤◌, arith, length, get_or, take, drop, set, needs}
+use Rattle.std.specs.Prelude.{◌≡◌, ◌++◌, ◌+◌, ◌-◌, ◌≤◌}
+use Rattle.laws.specs.Usual.{refl, sym, ap, ap₂, ◌∙◌, List, ℕ, arith, length, get_or, take, drop, set, needs}
 use native.Mathlib.Nat.{zero-add}
 use native.Mathlib.Numerals.{add-one}
 use lib.ListN.{length-set}

@@ -1,5 +1,6 @@
 -- `ticking::participant_tick` meets its contract.
-use Rattle.laws.specs.Usual.{◌≡◌, sym, ap, ◌∙◌, Bool, cond, ◌+◌, leb}
+use Rattle.std.specs.Prelude.{◌≡◌, ◌+◌}
+use Rattle.laws.specs.Usual.{sym, ap, ◌∙◌, Bool, cond, leb}
 use Rattle.panel.specs.Panel.{ticked}
 use Rattle.station.specs.Rules.State.{counted}
 use Rattle.station.specs.Rules.Ticking.{watch_time, watch_ends, watch_ended}

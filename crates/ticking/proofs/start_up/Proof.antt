@@ -1,5 +1,6 @@
 -- `ticking::start_up` meets its contract.
-use Rattle.laws.specs.Usual.{◌≡◌, refl, sym, ◌∙◌, cond, List, [], ◌∷◌, ℕ}
+use Rattle.std.specs.Prelude.{◌≡◌, ◌∷◌}
+use Rattle.laws.specs.Usual.{refl, sym, ◌∙◌, cond, List, [], ℕ}
 use Rattle.members.specs.Members.{is_empty, numbers_of, smallest}
 use Rattle.station.specs.Rules.Starting.{started_up}
 use Rattle.station.specs.Rules.State.{fresh, begun}

@@ -1,5 +1,6 @@
 -- `ticking_jump::go_round` meets its contract.
-use Rattle.laws.specs.Usual.{◌+◌, ◌<◌, arith, needs}
+use Rattle.std.specs.Prelude.{◌+◌, ◌<◌}
+use Rattle.laws.specs.Usual.{arith, needs}
 use native.Mathlib.Nat.{mod-lt}
 use Rattle.ticking_jump.proofs.go_round.Statement.{statement}
 use Rattle.ticking_jump.proofs.go_round.Tie as tie

@@ -1,6 +1,6 @@
 -- `ticking_many::is_alone` meets its contract.
 use borrow.Author.Tests.{not-true, not-false}
-use Rattle.laws.specs.Usual.{◌&&◌}
+use Rattle.std.specs.Prelude.{◌&&◌}
 use Rattle.ticking_many.proofs.is_alone.Statement.{statement}
 use Rattle.ticking_many.proofs.is_alone.Tie as tie
 

@@ -1,5 +1,6 @@
 -- `ticking_many::jump` meets its contract.
-use Rattle.laws.specs.Usual.{◌<◌, arith}
+use Rattle.std.specs.Prelude.{◌<◌}
+use Rattle.laws.specs.Usual.{arith}
 use Rattle.ticking_jump.specs.JumpTicks.{jump_ticks}
 use Rattle.ticking_many.proofs.jump.Statement.{statement}
 use Rattle.ticking_many.proofs.jump.Tie as tie

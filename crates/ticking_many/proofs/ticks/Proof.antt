@@ -1,7 +1,8 @@
 -- `ticking_many::ticks` meets its contract.
-use Rattle.laws.specs.Usual.{◌≡◌, refl, sym, ap, ◌∙◌, ℕ, arith}
+use Rattle.std.specs.Prelude.{◌≡◌}
+use Rattle.laws.specs.Usual.{refl, sym, ap, ◌∙◌, ℕ, arith}
 use Rattle.ticking_quiet.specs.Many.{after_ticks}
-use Rattle.ticking_quiet.specs.ManyLaws.{ticks_station, ticks_answer}
+use Rattle.ticking_quiet.proofs.ManyLaws.{ticks_station, ticks_answer}
 use Rattle.ticking_jump.specs.JumpTicks.{tick_on}
 use Rattle.ticking_many.proofs.ticks.Statement.{statement}
 use Rattle.ticking_many.proofs.ticks.Tie as tie

@@ -1,5 +1,6 @@
 -- `waits::later` meets its contract.
-use Rattle.laws.specs.Usual.{◌≡◌, ◌+◌, min, arith, needs}
+use Rattle.std.specs.Prelude.{◌≡◌, ◌+◌}
+use Rattle.laws.specs.Usual.{min, arith, needs}
 use Rattle.waits.proofs.later.Statement.{statement}
 use Rattle.waits.proofs.later.Tie as tie
 

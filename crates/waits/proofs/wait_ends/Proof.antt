@@ -1,9 +1,6 @@
 -- `waits::wait_ends` meets its contract.
 use Rattle.waits.proofs.wait_ends.Statement.{statement}
 use Rattle.waits.proofs.wait_ends.Tie as tie
-use Rattle.waits.proofs.wait_ends.Reads as reads
-use Rattle.waits.proofs.wait_ends.Lts as lts
-use Rattle.waits_lengths.proofs.number_wait.Reads as number-wait-reads
 
 number_wait_requires : tie.Need-number-wait-requires
 number_wait_requires c κs = tt

@@ -1,5 +1,6 @@
 -- `asking_sending::turn::copy_part` meets its contract.
-use Rattle.laws.specs.Usual.{◌≡◌, ap, ◌∙◌, true, ℕ, ◌+◌, ◌-◌, ◌≤◌, arith, length, take, drop, needs}
+use Rattle.std.specs.Prelude.{◌≡◌, ◌+◌, ◌-◌, ◌≤◌}
+use Rattle.laws.specs.Usual.{ap, ◌∙◌, true, ℕ, arith, length, take, drop, needs}
 use lib.ListN.{length-take}
 use Rattle.area.specs.Areas.{in_area, span_of, memory_octets}
 use Rattle.area.specs.Within.{inside}

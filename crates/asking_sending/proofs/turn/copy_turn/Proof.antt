@@ -1,5 +1,6 @@
 -- `asking_sending::turn::copy_turn` meets its contract.
-use Rattle.laws.specs.Usual.{◌≡◌, sym, ap, ◌∙◌, true, List, ℕ, ◌*◌, ◌≤◌, arith, length, drop, needs}
+use Rattle.std.specs.Prelude.{◌≡◌, ◌*◌, ◌≤◌}
+use Rattle.laws.specs.Usual.{sym, ap, ◌∙◌, true, List, ℕ, arith, length, drop, needs}
 use native.Mathlib.Nat.{zero-add}
 use lib.ListN.{length-drop}
 use Rattle.area.specs.Areas.{in_area, in_range, span_of, memory_octets}

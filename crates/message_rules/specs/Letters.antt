@@ -1,3 +1,0 @@
--- A message that goes, heard.
-pub mod LetterSent
-pub mod LetterAccepted
