@@ -1,5 +1,6 @@
 // A station listed where the list stands, in its arrays: all listed entries are read, and one is written.
 #![tactic(auto)]
+
 ghost use Rattle.std.specs.Prelude.{◌≡◌, ◌||◌};
 ghost use Rattle.laws.specs.Usual.{cond};
 ghost use Rattle.area.specs.Overlap.{areas_overlap};

@@ -1,5 +1,6 @@
 // Next in a station list in arrays, by its flags alone.
 #![tactic(auto)]
+
 ghost use Rattle.std.specs.Prelude.{◌≡◌};
 ghost use Rattle.boundary_lists.specs.Lists.{next_in};
 

@@ -1,5 +1,6 @@
 // Overlaps looked for where the station list stands, in its arrays, from one listed number to the next.
 #![tactic(auto)]
+
 ghost use Rattle.std.specs.Prelude.{◌≡◌, ◌&&◌};
 ghost use Rattle.laws.specs.Usual.{not};
 ghost use Rattle.area.specs.Overlap.{areas_overlap};

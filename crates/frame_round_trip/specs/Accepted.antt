@@ -21,12 +21,12 @@ pub record Accepted (s : List ℕ) (fields : Fields) : Type 0 where
 
 -- what refusals 1 to 5 let through
 pub record Headed (s : List ℕ) (fields : Fields) : Type 0 where
-  is_whole : whole s ≡ true
-  is_marked : marked s ≡ true
-  is_long : long s ≡ true
-  is_coded : code_of (word_at s TCD) ≡ Known fields.code
-  holds : fields_of fields.code s ≡ fields
-  is_addressed : addressed fields ≡ true
+  pub is_whole : whole s ≡ true
+  pub is_marked : marked s ≡ true
+  pub is_long : long s ≡ true
+  pub is_coded : code_of (word_at s TCD) ≡ Known fields.code
+  pub holds : fields_of fields.code s ≡ fields
+  pub is_addressed : addressed fields ≡ true
 
 -- what refusals 7, 14, 15 and 8 let through
 pub record Bodied (given : ℕ) (header fields : Fields) : Type 0 where

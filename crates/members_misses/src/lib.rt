@@ -1,5 +1,6 @@
 // The misses of the stations that are listed, and striking.
 #![tactic(auto)]
+
 ghost use Rattle.std.specs.Prelude.{◌≡◌};
 ghost use Rattle.members.specs.Members.{misses_set, cleared, strikes, missed};
 

@@ -36,17 +36,17 @@ pub record Accepts (station : Station) (given : ℕ) (letter : Letter) : Type 0 
 -- what hearing a message leaves
 pub data LetterCases (station : Station) (messages : Messages) (given : ℕ) (letter : Letter) : Hearing → Type 0 where
   -- any refusal, but number 6 before we participate
-  pub refuses : (refusal : Refusal) → LetterCases station messages given letter (refused station messages refusal)
-  pub turns_off : addressed letter ≡ true → is_taken station letter ≡ true → is_participating station.phase ≡ false
+  refuses : (refusal : Refusal) → LetterCases station messages given letter (refused station messages refusal)
+  turns_off : addressed letter ≡ true → is_taken station letter ≡ true → is_participating station.phase ≡ false
       → LetterCases station messages given letter (refused (stopped station) no_messages refusals.Taken)
-  pub off : is_off station.phase ≡ true → LetterCases station messages given letter (unchanged station messages (received.Told heard.Off))
+  off : is_off station.phase ≡ true → LetterCases station messages given letter (unchanged station messages (received.Told heard.Off))
   -- it is for another, or we do not participate
-  pub passes : Accepts station given letter → is_for_us station letter ≡ false
+  passes : Accepts station given letter → is_for_us station letter ≡ false
       → LetterCases station messages given letter (unchanged station messages (received.Told heard.Done))
   -- its confirmation would be the ninth
-  pub holds : Accepts station given letter → is_for_us station letter ≡ true → is_held messages letter ≡ true
+  holds : Accepts station given letter → is_for_us station letter ≡ true → is_held messages letter ≡ true
       → LetterCases station messages given letter (unchanged station messages (received.Told heard.Done))
-  pub takes : Accepts station given letter → is_for_us station letter ≡ true → is_held messages letter ≡ false
+  takes : Accepts station given letter → is_for_us station letter ≡ true → is_held messages letter ≡ false
       → LetterCases station messages given letter (record {
         station = station;
         messages = judged messages (judgement_of messages letter) letter;
@@ -55,18 +55,18 @@ pub data LetterCases (station : Station) (messages : Messages) (given : ℕ) (le
 
 -- what hearing leaves: of a message, or of a frame of the base
 pub data HearCases (both : Both) (octets memory assembly : List ℕ) : calls.Hearing → Type 0 where
-  pub letter : is_letter octets memory assembly ≡ true
+  letter : is_letter octets memory assembly ≡ true
       → HearCases both octets memory assembly (letter_heard (message_heard both.ring both.messages octets) memory assembly)
-  pub frame : is_letter octets memory assembly ≡ false
+  frame : is_letter octets memory assembly ≡ false
       → HearCases both octets memory assembly (frame_heard both octets (hear_of both.ring octets memory assembly)
       (calls.takes both.ring (base.hear octets memory assembly)))
 
 -- what handing in a message leaves
 pub data PostCases (station : Station) (messages : Messages) (message : Message) (octets mail : List ℕ) : Posting → Type 0 where
-  pub refuses : (refusal : Refusal) → PostCases station messages message octets mail (record { messages = messages; answer = posted.Refused refusal; mail = mail })
-  pub off : is_off station.phase ≡ true
+  refuses : (refusal : Refusal) → PostCases station messages message octets mail (record { messages = messages; answer = posted.Refused refusal; mail = mail })
+  off : is_off station.phase ≡ true
       → PostCases station messages message octets mail (record { messages = messages; answer = posted.Off; mail = mail })
-  pub waits : mail_right mail ≡ true → is_sendable station message octets ≡ true → is_open messages.slot.mail ≡ false → is_off station.phase ≡ false
+  waits : mail_right mail ≡ true → is_sendable station message octets ≡ true → is_open messages.slot.mail ≡ false → is_off station.phase ≡ false
       → PostCases station messages message octets mail (record {
         messages = with_slot messages (waiting message (length octets));
         answer = posted.Done;
@@ -75,9 +75,9 @@ pub data PostCases (station : Station) (messages : Messages) (message : Message)
 
 -- what asking leaves: 11, a message that goes, or what the base writes or refuses
 pub data AskCases (both : Both) (memory turn output mail : List ℕ) : Asking → Type 0 where
-  pub refuses : mail_right mail ≡ false → AskCases both memory turn output mail
+  refuses : mail_right mail ≡ false → AskCases both memory turn output mail
       (record { both = both; answer = asked.Refused refusals.Buffer; turn = turn; output = output })
-  pub sends : mail_right mail ≡ true → asking.lent_right memory turn output ≡ true → goes both.ring both.messages ≡ true
+  sends : mail_right mail ≡ true → asking.lent_right memory turn output ≡ true → goes both.ring both.messages ≡ true
       → AskCases both memory turn output mail (letter_asked both turn output mail)
-  pub blocks : mail_right mail ≡ true → (asking.lent_right memory turn output && goes both.ring both.messages) ≡ false
+  blocks : mail_right mail ≡ true → (asking.lent_right memory turn output && goes both.ring both.messages) ≡ false
       → AskCases both memory turn output mail (block_asked both memory turn output)

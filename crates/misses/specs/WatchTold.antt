@@ -7,7 +7,7 @@ use Rattle.misses.specs.WatchHistory.{milliseconds, ends_after, run_after, watch
 
 -- what a call leaves of a participant's watch
 pub record Runs (station : Station) (restarted ticks : Bool) (left : Station) : Type 0 where
-  run : participates left ≡ true
+  pub run : participates left ≡ true
       → left.elapsed.0 ≡ run_after restarted ticks (ends_after (milliseconds station) station.elapsed.0) station.elapsed.0
 
 -- what holds of a participant after these steps

@@ -1,5 +1,6 @@
 // A part of the octets of a buffer, and octets in hexadecimal, in lower case.
 #![tactic(auto)]
+
 ghost use Rattle.std.specs.Prelude.{◌≡◌, ◌+◌, ◌*◌, ◌<◌, ◌≤◌};
 ghost use Rattle.laws.specs.Usual.{length, take, drop};
 ghost use Rattle.copying.specs.Pasted.{pasted};

@@ -13,5 +13,5 @@ without_moved from to numbers = each (λ view. cond (is_moved from to view) 0 (g
 
 -- what a pass does to a view, with whether it is moved
 pub data Passed (from to view : ℕ) : Type 0 where
-  pub moves : is_moved from to view ≡ true → passed_view view from to ≡ to → Passed from to view
-  pub stays : is_moved from to view ≡ false → passed_view view from to ≡ view → Passed from to view
+  moves : is_moved from to view ≡ true → passed_view view from to ≡ to → Passed from to view
+  stays : is_moved from to view ≡ false → passed_view view from to ≡ view → Passed from to view

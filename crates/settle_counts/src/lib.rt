@@ -1,6 +1,7 @@
 // How many stations have each view, and how many different views there are: counted once, and adjusted at a pass and at a silence by view
 // and not by station, so that no adjustment waits for the one before it.
 #![tactic(auto)]
+
 ghost use Rattle.std.specs.Prelude.{◌≡◌, ◌+◌, ◌*◌, ◌≤◌};
 ghost use Rattle.laws.specs.Usual.{min, length, get_or};
 ghost use Rattle.settle_moves.specs.Moves.{passed_view};

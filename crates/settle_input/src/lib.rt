@@ -1,5 +1,6 @@
 // Reading the input of `settle`: the ring, or the number of the first bad line.
 #![tactic(auto)]
+
 ghost use Rattle.std.specs.Prelude.{◌≡◌, ◌<◌};
 ghost use Rattle.laws.specs.Usual.{length};
 ghost use Rattle.settle_input.specs.Input.{number_in, no_entry, entry_of, first_line, no_ring, line_at, forms_of, bad, read_of};

@@ -1,5 +1,6 @@
 // Next, and what a silence does to the views of a ring, in place.
 #![tactic(auto)]
+
 ghost use Rattle.std.specs.Prelude.{◌≡◌, ◌≤◌};
 ghost use Rattle.laws.specs.Usual.{cond, length, drop, ltb};
 ghost use Rattle.settling.specs.Ring.{next, silence};

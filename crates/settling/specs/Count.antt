@@ -4,7 +4,7 @@ use Rattle.laws.specs.Usual.{[], List, ℕ}
 use mathlib.Core.List.Memᴰ
 
 -- m where A holds, and 0 where it does not
-pub only : {A : Type 0} → Dec A → ℕ → ℕ
+unfoldable pub only : {A : Type 0} → Dec A → ℕ → ℕ
 only (yes a) m = m
 only (no h) m = 0
 

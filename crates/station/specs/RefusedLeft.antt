@@ -8,8 +8,8 @@ use Rattle.frame.specs.declared.Refusal.TheVariants as refusals
 
 -- nothing is altered, or number 6 came before we participate and left just what stop leaves
 pub data Spared (before after : Station) (refusal : Refusal) : Type 0 where
-  pub same : after ≡ before → Spared before after refusal
-  pub turned_off : refusal ≡ refusals.Taken → is_participating before.phase ≡ false → after ≡ stopped before → Spared before after refusal
+  same : after ≡ before → Spared before after refusal
+  turned_off : refusal ≡ refusals.Taken → is_participating before.phase ≡ false → after ≡ stopped before → Spared before after refusal
 
 -- what a refused call leaves
 pub record Left (station : Station) (call : Call) (refusal : Refusal) : Type 0 where

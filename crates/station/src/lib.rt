@@ -1,5 +1,6 @@
 // The state of a station, and what its calls answer.
 #![tactic(auto)]
+
 use area::Areas;
 use frame::Refusal;
 use members::Members;

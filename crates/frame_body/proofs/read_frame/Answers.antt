@@ -5,10 +5,8 @@ use Rattle.frame_body.proofs.read_frame.Goals as goal
 
 pub returns-in-Frame : goal.returns-in-Frame
 unfolding read_of
-returns-in-Frame c =
-    let told = sym c.read_header.ensures ∙ c.fields-1.given.1 in
-    rw told c.read_body.ensures
+returns-in-Frame c = rw (sym c.in-Frame.ensures) c.read_body.ensures
 
 pub returns-in-Refused : goal.returns-in-Refused
 unfolding read_of
-returns-in-Refused c = rw (sym c.read_header.ensures ∙ c.refusal-1.given.1)
+returns-in-Refused c = rw (sym c.in-Refused.ensures)

@@ -8,22 +8,22 @@ pub returns-in-Token : goal.returns-in-Token
 unfolding fixed_for
 returns-in-Token c =
     let fields = c.args.fields in
-    c.fixed_cyclic.ensures ∙ ap (λ (code : Code). fixed_for code fields) (sym c.enum_told-1.given.1)
+    c.fixed_cyclic.ensures ∙ ap (λ (code : Code). fixed_for code fields) (sym c.in-Token.is)
 
 pub returns-in-Cyclic : goal.returns-in-Cyclic
 unfolding fixed_for
 returns-in-Cyclic c =
     let fields = c.args.fields in
-    c.fixed_cyclic-in-Cyclic.ensures ∙ ap (λ (code : Code). fixed_for code fields) (sym c.enum_told-in-Cyclic-1.given.1)
+    c.fixed_cyclic-in-Cyclic.ensures ∙ ap (λ (code : Code). fixed_for code fields) (sym c.in-Cyclic.is)
 
 pub returns-in-Request : goal.returns-in-Request
 unfolding fixed_for
 returns-in-Request c =
     let fields = c.args.fields in
-    c.fixed_request.ensures ∙ ap (λ (code : Code). fixed_for code fields) (sym c.enum_told-in-Request-1.given.1)
+    c.fixed_request.ensures ∙ ap (λ (code : Code). fixed_for code fields) (sym c.in-Request.is)
 
 pub returns-in-Trigger : goal.returns-in-Trigger
 unfolding fixed_for
 returns-in-Trigger c =
     let fields = c.args.fields in
-    c.fixed_trigger.ensures ∙ ap (λ (code : Code). fixed_for code fields) (sym c.enum_told-in-Trigger-1.given.1)
+    c.fixed_trigger.ensures ∙ ap (λ (code : Code). fixed_for code fields) (sym c.in-Trigger.is)

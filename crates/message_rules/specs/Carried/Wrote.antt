@@ -6,5 +6,5 @@ use Rattle.message_frames.specs.Confirmations.{carrying}
 
 -- octets that are those of a frame, or those with a confirmation put in
 pub data Wrote (s : List ℕ) : List ℕ → Type 0 where
-  pub alone : Wrote s s
-  pub carries : (confirmation : Confirmation) → Wrote s (carrying confirmation s)
+  alone : Wrote s s
+  carries : (confirmation : Confirmation) → Wrote s (carrying confirmation s)

@@ -20,35 +20,35 @@ kind_of letter = to_all letter.message.destination
 
 -- a call hands over a message: it is a hearing, and its answer is "message"
 pub data HandsOver (both : Both) : Call → Letter → Type 0 where
-  pub hands : (octets memory assembly : List ℕ) → is_letter octets memory assembly ≡ true
+  hands : (octets memory assembly : List ℕ) → is_letter octets memory assembly ≡ true
       → (hear_of both octets memory assembly).answer ≡ received.Message (delivery_of (letter_in octets))
       → HandsOver both (hear octets memory assembly) (letter_in octets)
 
 -- a call registers another version of a source
 pub data Registers (both : Both) : Call → Letter → Type 0 where
-  pub registers : (octets memory assembly : List ℕ) → Judging both octets memory assembly → judgement_of both.messages (letter_in octets) ≡ OtherVersion
+  registers : (octets memory assembly : List ℕ) → Judging both octets memory assembly → judgement_of both.messages (letter_in octets) ≡ OtherVersion
       → Registers both (hear octets memory assembly) (letter_in octets)
 
 -- a call that ends what is remembered of the last message of a source and a kind
 pub data Disturbs (source : ℕ) (kind : Bool) (number : ℕ) (both : Both) (call : Call) : Type 0 where
   -- it hands over one of that source and kind, with another number
-  pub another : (letter : Letter) → HandsOver both call letter → letter.source ≡ source → kind_of letter ≡ kind → ¬ (letter.number ≡ number)
+  another : (letter : Letter) → HandsOver both call letter → letter.source ≡ source → kind_of letter ≡ kind → ¬ (letter.number ≡ number)
       → Disturbs source kind number both call
   -- it brings another version of that source, which is registered
-  pub version : (letter : Letter) → Registers both call letter → letter.source ≡ source → Disturbs source kind number both call
+  version : (letter : Letter) → Registers both call letter → letter.source ≡ source → Disturbs source kind number both call
   -- it turns the station on or off
-  pub switched : is_off (after both call).ring.phase ≡ not (is_off both.ring.phase) → Disturbs source kind number both call
+  switched : is_off (after both call).ring.phase ≡ not (is_off both.ring.phase) → Disturbs source kind number both call
 
 -- some call of a list does
 pub data Lies (source : ℕ) (kind : Bool) (number : ℕ) : Both → List Call → Type 0 where
-  pub here : {both : Both} {call : Call} {calls : List Call} → Disturbs source kind number both call → Lies source kind number both (call ∷ calls)
-  pub later : {both : Both} {call : Call} {calls : List Call} → Lies source kind number (after both call) calls → Lies source kind number both (call ∷ calls)
+  here : {both : Both} {call : Call} {calls : List Call} → Disturbs source kind number both call → Lies source kind number both (call ∷ calls)
+  later : {both : Both} {call : Call} {calls : List Call} → Lies source kind number (after both call) calls → Lies source kind number both (call ∷ calls)
 
 -- the tables have a place for every octet
 pub record Long (sources : Sources) : Type 0 where
-  versions : length sources.versions ≡ 256
-  one_to_one : length sources.one_to_one ≡ 256
-  to_all : length sources.to_all ≡ 256
+  pub versions : length sources.versions ≡ 256
+  pub one_to_one : length sources.one_to_one ≡ 256
+  pub to_all : length sources.to_all ≡ 256
 
 -- the number that is remembered of a kind
 abbrev pub last : Bool → Known → ℕ
@@ -56,15 +56,15 @@ last kind known = cond kind known.to_all known.one_to_one
 
 -- this version and number of that source and kind are remembered
 pub record Remembers (source : ℕ) (kind : Bool) (version number : ℕ) (sources : Sources) : Type 0 where
-  is_version : (known_of sources source).version ≡ version
-  is_number : last kind (known_of sources source) ≡ number
+  pub is_version : (known_of sources source).version ≡ version
+  pub is_number : last kind (known_of sources source) ≡ number
 
 -- how a message is judged
 pub data JudgeCases (known : Known) (letter : Letter) : Judged → Type 0 where
-  pub abnormal : JudgeCases known letter Abnormal
-  pub otherwise : JudgeCases known letter OtherVersion
-  pub repeats : JudgeCases known letter Repeat
-  pub new : ¬ (letter.version ≡ 0) → ¬ (letter.number ≡ 0) → (known.version ≡ 0) ⊎ (known.version ≡ letter.version)
+  abnormal : JudgeCases known letter Abnormal
+  otherwise : JudgeCases known letter OtherVersion
+  repeats : JudgeCases known letter Repeat
+  new : ¬ (letter.version ≡ 0) → ¬ (letter.number ≡ 0) → (known.version ≡ 0) ⊎ (known.version ≡ letter.version)
       → ¬ (letter.number ≡ last (kind_of letter) known) → JudgeCases known letter New
 
 -- two kinds compared

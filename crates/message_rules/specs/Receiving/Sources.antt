@@ -16,11 +16,11 @@ pub record Judging (both : Both) (octets memory assembly : List ℕ) : Type 0 wh
   pub room : is_held both.messages (letter_in octets) ≡ false
 
 pub data SourcesMove (both : Both) : Call → Both → Type 0 where
-  pub kept : {call : Call} {left : Both} → left.messages.sources ≡ both.messages.sources → SourcesMove both call left
-  pub judges : (octets memory assembly : List ℕ) {left : Both} → Judging both octets memory assembly
+  kept : {call : Call} {left : Both} → left.messages.sources ≡ both.messages.sources → SourcesMove both call left
+  judges : (octets memory assembly : List ℕ) {left : Both} → Judging both octets memory assembly
       → left.messages.sources ≡ with_known both.messages.sources (letter_in octets).source
       (known_after (judgement_of both.messages (letter_in octets)) (known_of both.messages.sources (letter_in octets).source) (letter_in octets))
       → (hear_of both octets memory assembly).answer ≡ answer_to (judgement_of both.messages (letter_in octets)) (letter_in octets)
       → SourcesMove both (hear octets memory assembly) left
-  pub turns : {call : Call} {left : Both} → left.messages.sources ≡ no_sources → is_off left.ring.phase ≡ not (is_off both.ring.phase)
+  turns : {call : Call} {left : Both} → left.messages.sources ≡ no_sources → is_off left.ring.phase ≡ not (is_off both.ring.phase)
       → SourcesMove both call left

@@ -25,5 +25,5 @@ Typed (ask memory turn output mail) = Unit {0}
 
 -- what some list of calls leaves since off
 pub data Reachable : Both → Type 0 where
-  pub unstarted : Reachable never_both
-  pub called : {both : Both} (call : Call) → Reachable both → Typed call → Reachable (after both call)
+  unstarted : Reachable never_both
+  called : {both : Both} (call : Call) → Reachable both → Typed call → Reachable (after both call)

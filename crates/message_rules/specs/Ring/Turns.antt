@@ -20,12 +20,12 @@ hears_nothing (ask memory turn output mail) = true
 
 -- the frames that the base accepts, as `Lending` of station tells them, with each frame heard with the assembly buffer as it was left
 pub data LendingBoth : List (List ℕ) → Both → List ℕ → Type 0 where
-  pub begins : (assembly : List ℕ) → LendingBoth [] never_both assembly
-  pub hears : {frames : List (List ℕ)} {both : Both} {assembly : List ℕ} → LendingBoth frames both assembly → (octets memory : List ℕ)
+  begins : (assembly : List ℕ) → LendingBoth [] never_both assembly
+  hears : {frames : List (List ℕ)} {both : Both} {assembly : List ℕ} → LendingBoth frames both assembly → (octets memory : List ℕ)
       → ((at : ℕ) → get_or octets at 0 < 256)
       → LendingBoth (accepted_after (hearing.hear_of both.ring octets memory assembly).answer octets frames) (hear_of both octets memory assembly).both
       (hear_of both octets memory assembly).assembly
-  pub calls : {frames : List (List ℕ)} {both : Both} {assembly : List ℕ} → LendingBoth frames both assembly → (call : Call) → Typed call
+  calls : {frames : List (List ℕ)} {both : Both} {assembly : List ℕ} → LendingBoth frames both assembly → (call : Call) → Typed call
       → hears_nothing call ≡ true → LendingBoth frames (after both call) assembly
 
 -- a message is never answered as a cyclic frame

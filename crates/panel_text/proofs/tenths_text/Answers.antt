@@ -42,7 +42,7 @@ returns c =
     let few : length whole ≤ 4 = four_digits (ticks / 10) (omega arith) in
     let one : length tenths ≡ 1 = ap length (one_digit (ticks % 10) (omega arith)) in
     let long : length (whole ++ (0x2e ∷ tenths)) ≡ length whole + 1 + length tenths = rw (length-append whole (0x2e ∷ tenths)) (omega arith) in
-    let wrote : c.put_decimal-length.new.1.0 ≡ pasted zeros 0 (whole ++ (0x2e ∷ tenths)) =
+    let wrote : c.put_decimal-length.new.output ≡ pasted zeros 0 (whole ++ (0x2e ∷ tenths)) =
     second.output_after ∙ ap₂ (λ (l : List ℕ) (k : ℕ). pasted (set l k 0x2e) (k + 1) tenths) first.output_after first.value ∙ put_both whole tenths few in
     let end : c.put_decimal-length.result ≡ length (whole ++ (0x2e ∷ tenths)) = omega (arith, first.value, second.value) in
     rw (wrote, end, six (whole ++ (0x2e ∷ tenths)) (omega arith))

@@ -1,6 +1,6 @@
 -- `replay_reply_octets::put_hex` meets its contract.
 use Rattle.std.specs.Prelude.{◌≡◌, ◌++◌, ◌+◌, ◌-◌, ◌<◌, ◌≤◌}
-use Rattle.laws.specs.Usual.{refl, sym, ap, ◌∙◌, ℕ, arith, length, get_or, take}
+use Rattle.laws.specs.Usual.{subst, List, refl, sym, ap, ◌∙◌, ℕ, arith, length, get_or, take}
 use native.Mathlib.Numerals.{add-one}
 use lib.Seq.{length-take-le, take-suc, take_all}
 use Rattle.copying.specs.Laws.{paste_nothing}
@@ -40,7 +40,7 @@ loop-i-preserved c =
     ap (λ (k : ℕ). hex_of (take k octets)) (add-one l.i) ∙ ap hex_of (take-suc octets l.i 0 inside) ∙ hex_more (take l.i octets) octet in
     let room : a.at + length (hex_of (take l.i octets)) ≤ length a.output.now = omega (arith, c.requires, hex_length (take l.i octets), length-take-le l.i octets l.invariant.0) in (
       omega arith,
-      rw more (then a.output.now a.at (hex_of (take l.i octets)) (octet_text octet) room l.invariant.1 c.put_octet-end.ensures),
+      rw more (then a.output.now a.at (hex_of (take l.i octets)) (octet_text octet) room l.invariant.1 (c.put_octet-end.ensures.value, c.put_octet-end.ensures.output_after)),
       c.put_octet-end.auto.output ∙ l.invariant.2,
     )
 
@@ -52,4 +52,5 @@ returns c =
     let l = c.loop-i in
     let octets = c.args.octets.now in
     let all : take l.i octets ≡ octets = take_all l.i octets c.loop-i-test.false in
-    rw (← all) l.invariant.1
+    let whole : Written c.args.output.now c.args.at (hex_of octets) l.output l.end = subst (λ (s : List ℕ). Written c.args.output.now c.args.at (hex_of s) l.output l.end) all l.invariant.1 in
+    record { value = whole.0; output_after = whole.1 }

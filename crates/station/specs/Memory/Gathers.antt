@@ -24,8 +24,8 @@ accepted_after (answers.Refused refusal) octets heard = heard
 
 -- The latest cyclic frames accepted that are no repeats are blocks 1 to n of a source, in this order, and these are their data one behind the other.
 pub data Parts (source : ℕ) : List (List ℕ) → ℕ → List ℕ → Type 0 where
-  pub none : {heard : List (List ℕ)} → Parts source heard 0 []
-  pub more : {heard : List (List ℕ)} {n : ℕ} {part : List ℕ} → Parts source heard n part → (octets : List ℕ) (frame : Fields)
+  none : {heard : List (List ℕ)} → Parts source heard 0 []
+  more : {heard : List (List ℕ)} {n : ℕ} {part : List ℕ} → Parts source heard n part → (octets : List ℕ) (frame : Fields)
       → read_header_of octets ≡ Frame frame → read_body_of (length octets) frame ≡ Frame frame → is_cyclic frame.code ≡ true → frame.source ≡ source → frame.block ≡ n + 1
       → Parts source (octets ∷ heard) frame.block (part ++ reading.data_of octets frame)
 

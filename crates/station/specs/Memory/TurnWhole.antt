@@ -20,8 +20,8 @@ hears_nothing (ask memory turn output) = true
 -- the cyclic frames accepted since off that are no repeats, the latest first, with the state that all calls leave, each frame heard with the assembly buffer as it was
 -- left, and that buffer
 pub data Lending : List (List ℕ) → Station → List ℕ → Type 0 where
-  pub begins : (assembly : List ℕ) → Lending [] never assembly
-  pub hears : {heard : List (List ℕ)} {station : Station} {assembly : List ℕ} → Lending heard station assembly → (octets memory : List ℕ) → ((at : ℕ) → get_or octets at 0 < 256)
+  begins : (assembly : List ℕ) → Lending [] never assembly
+  hears : {heard : List (List ℕ)} {station : Station} {assembly : List ℕ} → Lending heard station assembly → (octets memory : List ℕ) → ((at : ℕ) → get_or octets at 0 < 256)
       → Lending (accepted_after (hear_of station octets memory assembly).answer octets heard) (hear_of station octets memory assembly).station (hear_of station octets memory assembly).assembly
-  pub calls : {heard : List (List ℕ)} {station : Station} {assembly : List ℕ} → Lending heard station assembly → (call : Call) → Typed call → hears_nothing call ≡ true
+  calls : {heard : List (List ℕ)} {station : Station} {assembly : List ℕ} → Lending heard station assembly → (call : Call) → Typed call → hears_nothing call ≡ true
       → Lending heard (after station call) assembly

@@ -12,21 +12,21 @@ use Rattle.station.specs.declared.Asked.TheVariants as answers
 
 -- a frame that is due: what sending it leaves, its fields, and the turn buffer that it is sent from
 pub data SendCases (station : Station) (memory turn : List ℕ) : Station → Fields → List ℕ → Type 0 where
-  pub triggers : station.phase ≡ Listening → trigger_due station ≡ true
+  triggers : station.phase ≡ Listening → trigger_due station ≡ true
       → SendCases station memory turn (fresh Startup station.own) (trigger_fields station.own.number) turn
-  pub requests : station.phase ≡ Startup → request_fallen Startup station ≡ true
+  requests : station.phase ≡ Startup → request_fallen Startup station ≡ true
       → SendCases station memory turn (request_sent station) (request_fields station.own.number station.own.areas station.own.watch) turn
-  pub begins : station.phase ≡ Joining → request_fallen Joining station ≡ true
+  begins : station.phase ≡ Joining → request_fallen Joining station ≡ true
       → SendCases station memory turn (begun station.own station.members station.view)
       (request_fields station.own.number station.own.areas station.own.watch) turn
-  pub passes : station.phase ≡ Participating → holds station ≡ true → is_placed station ≡ true
+  passes : station.phase ≡ Participating → holds station ≡ true → is_placed station ≡ true
       → SendCases station memory turn (block_sent station) (next_fields station.own station.block (next_station station))
       (turn_for station.own.areas station.block memory turn)
 
 -- what asking leaves
 pub data AskCases (station : Station) (memory turn output : List ℕ) : Asking → Type 0 where
-  pub refuses : (refusal : Refusal) → AskCases station memory turn output (refused station turn output refusal)
-  pub sends : {left : Station} {fields : Fields} {copy : List ℕ} → lent_right memory turn output ≡ true → due_fields station.phase station ≡ fields
+  refuses : (refusal : Refusal) → AskCases station memory turn output (refused station turn output refusal)
+  sends : {left : Station} {fields : Fields} {copy : List ℕ} → lent_right memory turn output ≡ true → due_fields station.phase station ≡ fields
       → SendCases station memory turn left fields copy → AskCases station memory turn output (record {
         station = left;
         answer = answers.Octets (whole_length fields);

@@ -39,61 +39,61 @@ repeats? station frame octets assembly = is_repeat station.gathering frame (data
 
 -- what becomes of its data: the turn is written, or the block kept, or it is a repeat, or all dropped
 pub data GatherCases (station : Station) (frame : Fields) (octets memory assembly : List ℕ) : Gathered → Type 0 where
-  pub writes : same_areas frame.areas (entry_of station.members frame.source).areas ≡ true → repeats? station frame octets assembly ≡ false
+  writes : same_areas frame.areas (entry_of station.members frame.source).areas ≡ true → repeats? station frame octets assembly ≡ false
       → is_next station.gathering frame ≡ true → eqb frame.block frame.blocks ≡ true → GatherCases station frame octets memory assembly (record {
         gathering = nothing;
         assembly = pasted assembly (start_of frame.block) (data_of octets frame);
         memory = turn_written (entry_of station.members frame.source).areas (pasted assembly (start_of frame.block) (data_of octets frame)) memory;
         outcome = Written;
       })
-  pub keeps : same_areas frame.areas (entry_of station.members frame.source).areas ≡ true → repeats? station frame octets assembly ≡ false
+  keeps : same_areas frame.areas (entry_of station.members frame.source).areas ≡ true → repeats? station frame octets assembly ≡ false
       → is_next station.gathering frame ≡ true → eqb frame.block frame.blocks ≡ false → GatherCases station frame octets memory assembly (record {
         gathering = record { source = frame.source; blocks = frame.block };
         assembly = pasted assembly (start_of frame.block) (data_of octets frame);
         memory = memory;
         outcome = Kept;
       })
-  pub repeats : same_areas frame.areas (entry_of station.members frame.source).areas ≡ true → repeats? station frame octets assembly ≡ true
+  repeats : same_areas frame.areas (entry_of station.members frame.source).areas ≡ true → repeats? station frame octets assembly ≡ true
       → GatherCases station frame octets memory assembly (repeated station.gathering assembly memory)
-  pub drops : (same_areas frame.areas (entry_of station.members frame.source).areas && repeats? station frame octets assembly) ≡ false
+  drops : (same_areas frame.areas (entry_of station.members frame.source).areas && repeats? station frame octets assembly) ≡ false
       → GatherCases station frame octets memory assembly (dropped assembly memory)
 
 -- the phases in which a token frame begins joining, and those in which a request is listed
 pub data Awaits : Phase → Type 0 where
-  pub listening_awaits : Awaits Listening
-  pub startup_awaits : Awaits Startup
+  listening_awaits : Awaits Listening
+  startup_awaits : Awaits Startup
 
 pub data Lists : Phase → Type 0 where
-  pub startup_lists : Lists Startup
-  pub participant_lists : Lists Participating
+  startup_lists : Lists Startup
+  participant_lists : Lists Participating
 
 -- the frames, but for cyclic ones, that no rule names for the phase
 pub data Unnamed : Phase → Code → Type 0 where
-  pub listening_request : Unnamed Listening Request
-  pub startup_trigger : Unnamed Startup Trigger
-  pub joining_request : Unnamed Joining Request
-  pub joining_trigger : Unnamed Joining Trigger
-  pub participating_trigger : Unnamed Participating Trigger
+  listening_request : Unnamed Listening Request
+  startup_trigger : Unnamed Startup Trigger
+  joining_request : Unnamed Joining Request
+  joining_trigger : Unnamed Joining Trigger
+  participating_trigger : Unnamed Participating Trigger
 
 -- what any other frame that no refusal met leaves, and its answer
 pub data EnterCases (station : Station) (frame : Fields) : Station → Heard → Type 0 where
-  pub off : station.phase ≡ Off → EnterCases station frame station answers.Off
-  pub begins : station.phase ≡ Listening → frame.code ≡ Trigger → EnterCases station frame (fresh Startup station.own) answers.Done
-  pub joins : Awaits station.phase → frame.code ≡ Token
+  off : station.phase ≡ Off → EnterCases station frame station answers.Off
+  begins : station.phase ≡ Listening → frame.code ≡ Trigger → EnterCases station frame (fresh Startup station.own) answers.Done
+  joins : Awaits station.phase → frame.code ≡ Token
       → EnterCases station frame (joined_by (fresh Joining station.own) frame) (answers.Cyclic (tokens.None Dropped))
-  pub passes : Awaits station.phase → frame.code ≡ Cyclic → EnterCases station frame station (answers.Cyclic (tokens.None Dropped))
-  pub reads : station.phase ≡ Joining → is_cyclic frame.code ≡ true
+  passes : Awaits station.phase → frame.code ≡ Cyclic → EnterCases station frame station (answers.Cyclic (tokens.None Dropped))
+  reads : station.phase ≡ Joining → is_cyclic frame.code ≡ true
       → EnterCases station frame (joined_by station frame) (answers.Cyclic (tokens.None Dropped))
-  pub lists : Lists station.phase → frame.code ≡ Request → EnterCases station frame (requested station frame) answers.Done
-  pub ignores : Unnamed station.phase frame.code → EnterCases station frame station answers.Done
+  lists : Lists station.phase → frame.code ≡ Request → EnterCases station frame (requested station frame) answers.Done
+  ignores : Unnamed station.phase frame.code → EnterCases station frame station answers.Done
 
 -- what hearing leaves
 pub data HearCases (station : Station) (octets memory assembly : List ℕ) : Hearing → Type 0 where
   -- any refusal, but number 6 before we participate
-  pub refuses : (refusal : Refusal) → HearCases station octets memory assembly (refused station memory assembly refusal)
-  pub turns_off : is_participating station.phase ≡ false
+  refuses : (refusal : Refusal) → HearCases station octets memory assembly (refused station memory assembly refusal)
+  turns_off : is_participating station.phase ≡ false
       → HearCases station octets memory assembly (refused (stopped station) memory assembly refusals.Taken)
-  pub gathers : (frame : Fields) {after : Gathered} → FromMember station octets memory assembly frame → GatherCases station frame octets memory assembly after
+  gathers : (frame : Fields) {after : Gathered} → FromMember station octets memory assembly frame → GatherCases station frame octets memory assembly after
       → HearCases station octets memory assembly (participant_heard station frame after)
-  pub heeds : (frame : Fields) {left : Station} {answer : Heard} → Accepts station octets memory assembly frame → EnterCases station frame left answer
+  heeds : (frame : Fields) {left : Station} {answer : Heard} → Accepts station octets memory assembly frame → EnterCases station frame left answer
       → HearCases station octets memory assembly (record { station = left; answer = answer; memory = memory; assembly = assembly })

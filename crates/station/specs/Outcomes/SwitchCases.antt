@@ -9,8 +9,8 @@ use Rattle.station.specs.declared.Switched.TheVariants.{Done, Refused}
 
 -- a call that is refused and alters nothing, or is done, for a reason, and leaves another state
 pub data SwitchCases (before left : Station) (Reason : Type 0) : Switching → Type 0 where
-  pub refuses : (refusal : Refusal) → SwitchCases before left Reason (record { station = before; answer = Refused refusal })
-  pub does : Reason → SwitchCases before left Reason (record { station = left; answer = Done })
+  refuses : (refusal : Refusal) → SwitchCases before left Reason (record { station = before; answer = Refused refusal })
+  does : Reason → SwitchCases before left Reason (record { station = left; answer = Done })
 
 -- a station that is off, started with settings that can be
 pub record Starts (station : Station) (own : Settings) : Type 0 where

@@ -14,30 +14,30 @@ done station = record { station = station; answer = answers.Done }
 
 -- what a tick leaves
 pub data TickCases (station : Station) : Ticking → Type 0 where
-  pub off : station.phase ≡ Off → TickCases station (record { station = station; answer = answers.Off })
-  pub listens : station.phase ≡ Listening
+  off : station.phase ≡ Off → TickCases station (record { station = station; answer = answers.Off })
+  listens : station.phase ≡ Listening
       → TickCases station
       (done (counted station station.own (later (listening_time station.own.number) station.elapsed) station.waited station.panel))
   -- ring startup goes on, or ends with nobody listed, or with somebody
-  pub starts : station.phase ≡ Startup → leb acceptance_time (later acceptance_time station.elapsed).0 ≡ false
+  starts : station.phase ≡ Startup → leb acceptance_time (later acceptance_time station.elapsed).0 ≡ false
       → TickCases station
       (done
       (counted station (falls_due station station.elapsed (later acceptance_time station.elapsed)) (later acceptance_time station.elapsed)
       station.waited station.panel))
-  pub lapses : station.phase ≡ Startup → leb acceptance_time (later acceptance_time station.elapsed).0 ≡ true
+  lapses : station.phase ≡ Startup → leb acceptance_time (later acceptance_time station.elapsed).0 ≡ true
       → TickCases station (done (fresh Listening station.own))
-  pub begins : station.phase ≡ Startup → leb acceptance_time (later acceptance_time station.elapsed).0 ≡ true
+  begins : station.phase ≡ Startup → leb acceptance_time (later acceptance_time station.elapsed).0 ≡ true
       → TickCases station (done (begun station.own station.members (smallest station.own.number station.members)))
   -- joining ends without a token, or goes on before the third round has ended, or after it
-  pub gives_up : station.phase ≡ Joining → leb detection_wait (later detection_wait station.elapsed).0 ≡ true
+  gives_up : station.phase ≡ Joining → leb detection_wait (later detection_wait station.elapsed).0 ≡ true
       → TickCases station (done (fresh Listening station.own))
-  pub learns : station.phase ≡ Joining → leb detection_wait (later detection_wait station.elapsed).0 ≡ false → eqb station.rounds 3 ≡ false
+  learns : station.phase ≡ Joining → leb detection_wait (later detection_wait station.elapsed).0 ≡ false → eqb station.rounds 3 ≡ false
       → TickCases station (done (joining_wait station (later detection_wait station.elapsed) station.waited))
-  pub waits : station.phase ≡ Joining → leb detection_wait (later detection_wait station.elapsed).0 ≡ false → eqb station.rounds 3 ≡ true
+  waits : station.phase ≡ Joining → leb detection_wait (later detection_wait station.elapsed).0 ≡ false → eqb station.rounds 3 ≡ true
       → TickCases station
       (done (joining_wait station (later detection_wait station.elapsed) (later (number_wait station.own.number) station.waited)))
   -- a participant's watch ends, or runs
-  pub ends : station.phase ≡ Participating → watch_ends station ≡ true → TickCases station (done (watch_ended station))
-  pub runs : station.phase ≡ Participating → watch_ends station ≡ false
+  ends : station.phase ≡ Participating → watch_ends station ≡ true → TickCases station (done (watch_ended station))
+  runs : station.phase ≡ Participating → watch_ends station ≡ false
       → TickCases station
       (done (counted station station.own (later longest_watch station.elapsed) station.waited (ticked station.panel)))

@@ -8,5 +8,5 @@ use Rattle.station.specs.Types.{Station}
 
 -- what holds of a participant after these steps: its counters are those of the history, and a block of its turn is left to send
 pub record Agrees (steps : List Step) (station : Station) : Type 0 where
-  counts : participates station ≡ true → Counts (clock steps) (takings steps) station.panel
-  room : participates station ≡ true → Room station
+  pub counts : participates station ≡ true → Counts (clock steps) (takings steps) station.panel
+  pub room : participates station ≡ true → Room station
