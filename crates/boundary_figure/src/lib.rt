@@ -1,5 +1,6 @@
 // What the panel shows as numbers, for C.
 #![tactic(auto)]
+
 ghost use Rattle.std.specs.Prelude.{◌≡◌};
 ghost use Rattle.boundary_figure.specs.Figures.{gap_kind, kind_of, gap_ticks, ticks_of, figure_numbers};
 

@@ -1,5 +1,6 @@
 // The line that is printed for each answer to a line of a capture.
 #![tactic(auto)]
+
 ghost use Rattle.std.specs.Prelude.{◌≡◌, ◌∷◌};
 ghost use Rattle.laws.specs.Usual.{[], length};
 ghost use Rattle.copying.specs.Pasted.{pasted};

@@ -1,6 +1,7 @@
 // One line of a capture: hexadecimal digits in, the frame's fields or a refusal out. The digits come one by one, so that a line of any length
 // needs no more memory than the longest frame.
 #![tactic(auto)]
+
 ghost use Rattle.std.specs.Prelude.{◌≡◌};
 ghost use Rattle.laws.specs.Usual.{take};
 ghost use Rattle.frame_reading.specs.Reading.{read_of};

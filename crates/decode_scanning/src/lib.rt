@@ -1,5 +1,6 @@
 // The octets of a line, as they come: each pair of digits is stored as an octet.
 #![tactic(auto)]
+
 ghost use Rattle.std.specs.Prelude.{◌≡◌};
 ghost use Rattle.laws.specs.Usual.{length, drop, set};
 ghost use Rattle.decode_line.specs.Gathering.{octet_of, count_after, placed, stored, pushed, buffer_after, scanned, buffer_scanned};

@@ -1,5 +1,6 @@
 // The octets of a number that a message or a confirmation carries.
 #![tactic(auto)]
+
 ghost use Rattle.std.specs.Prelude.{◌≡◌};
 ghost use Rattle.frame_writing.specs.Writing.{long};
 

@@ -1,6 +1,7 @@
 // The lines that `replay` prints where it only looks: the panel's text, and octets of the common memory. Each is written in front of a lent
 // output, and each function answers the line's length.
 #![tactic(auto)]
+
 ghost use Rattle.std.specs.Prelude.{◌≡◌, ◌+◌, ◌*◌, ◌≤◌};
 ghost use Rattle.laws.specs.Usual.{length};
 ghost use Rattle.copying.specs.Pasted.{pasted};

@@ -1,5 +1,6 @@
 // The octets of a text taken into a line of the program `replay`'s input, one by one.
 #![tactic(auto)]
+
 ghost use Rattle.std.specs.Prelude.{◌≡◌};
 ghost use Rattle.laws.specs.Usual.{drop, set};
 ghost use Rattle.replay_input.specs.Gathering.{count_after, pushed, scanned, buffer_scanned};

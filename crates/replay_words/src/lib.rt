@@ -1,5 +1,6 @@
 // The words of a line, and words as numbers in decimal.
 #![tactic(auto)]
+
 ghost use Rattle.std.specs.Prelude.{◌≡◌, ◌+◌};
 ghost use Rattle.laws.specs.Usual.{drop};
 ghost use Rattle.text.specs.Lines.{space};

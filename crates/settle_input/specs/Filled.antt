@@ -40,7 +40,7 @@ set_station k (x ∷ views) (suc j) view n h none =
 -- what the forms of some lines leave in the ring
 pub record Filled (below : ℕ) (views : List ℕ) (lines : List (List ℕ)) (ring : Ring) : Type 0 where
   pub stations : stations_of ring ≡ stations_from 0 views ++ map station_in lines
-  pub views_of_lem : map (views_of ring) (map station_in lines) ≡ map view_in lines
+  pub views_same : map (views_of ring) (map station_in lines) ≡ map view_in lines
   pub kept : (x : ℕ) → x ≤ below → views_of ring x ≡ get_or views x 0
 
 -- the views with those of one line more
@@ -62,7 +62,7 @@ module _ (below : ℕ) (views line : List ℕ) (all : length views ≡ 256) (non
   unfolding with_line
   filled_more lines ring f = record {
     stations = f.stations ∙ ap (λ (l : List ℕ). l ++ map station_in lines) last ∙ append_assoc (stations_from 0 views) (station_in line ∷ []) (map station_in lines);
-    views_of_lem = ap₂ ◌∷◌ (f.kept (station_in line) (omega arith) ∙ get_or-set_same views (station_in line) (view_in line) 0 inside) f.views_of;
+    views_same = ap₂ ◌∷◌ (f.kept (station_in line) (omega arith) ∙ get_or-set_same views (station_in line) (view_in line) 0 inside) f.views_same;
     kept = λ x h. f.kept x (omega arith) ∙ get_or-set_other views (station_in line) x (view_in line) 0 (λ e. omega arith);
   }
     where
@@ -74,7 +74,7 @@ module _ (below : ℕ) (views line : List ℕ) (all : length views ≡ 256) (non
 filled : (number below : ℕ) (views : List ℕ) (lines : List (List ℕ)) → length views ≡ 256 → NoneFrom views (suc below)
     → (forms_from (suc number) below views lines).bad ≡ 0 → Filled below views lines (forms_from (suc number) below views lines).ring
 unfolding forms_from with_line
-filled number below views [] all none e = record { stations = sym (append-nil (stations_from 0 views)); views_of_lem = refl; kept = λ x h. refl }
+filled number below views [] all none e = record { stations = sym (append-nil (stations_from 0 views)); views_same = refl; kept = λ x h. refl }
 filled number below views (line ∷ lines) all none e =
     go (dec_lt below (station_in line)) (filled (suc number) (station_in line) (set views (station_in line) (view_in line)) lines)
   where
@@ -119,5 +119,5 @@ unlisted_line octets e =
     let ring = (forms_of octets).ring in
     let stations = forms_stations octets e in
     ap (first_unlisted (views_of ring) 1) stations
-    ∙ same_line ring 1 (lines_of octets) (filled_forms octets e).views_of
+    ∙ same_line ring 1 (lines_of octets) (filled_forms octets e).views_same
     ∙ ap (λ (ns : List ℕ). unlisted_from ns 1 (lines_of octets)) stations

@@ -65,7 +65,7 @@ forms_size number below views (line ∷ lines) all =
 pub ring_read : (octets : List ℕ) → (read_of octets).verdict ≡ verdicts.Ring → Given octets (read_of octets).ring
 ring_read octets e = subst (Given octets) (sym p.ring) (record {
   stations = lines;
-  views = ap (map (views_of (forms_of octets).ring)) lines ∙ f.views_of;
+  views = ap (map (views_of (forms_of octets).ring)) lines ∙ f.views_same;
   some = rw lines (one_line octets p.some);
   size = forms_size 1 0 no_views (lines_of octets) refl;
   listed = unlisted_line octets p.forms ∙ p.listed;

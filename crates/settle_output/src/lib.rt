@@ -1,5 +1,6 @@
 // The output lines of `settle`, each written in front of a lent buffer of 35 octets or more. A shorter buffer is left as it is.
 #![tactic(auto)]
+
 ghost use Rattle.std.specs.Prelude.{◌≡◌, ◌+◌, ◌*◌, ◌≤◌};
 ghost use Rattle.laws.specs.Usual.{length};
 ghost use Rattle.text.specs.Lines.{line_of};

@@ -42,6 +42,7 @@ module _ (views : Views) where
       go true e rest (Memᴰ.tail k) = rw e (omega (arith, a.0 x k))
       go false e rest (Memᴰ.head p) = absurd (eqb-false (views y) y e (ap views (sym p) ∙ h ∙ p))
       go false e rest (Memᴰ.tail k) = rw e (rest k h)
+  holder_smallest [] a x m h = elim m [ ]
 
   -- so the step that is made can come
   pub step_legal : (ns : List ℕ) → ((x : ℕ) → x ∈ ns → ¬ (x ≡ 0)) → Legal ns views (pass_by (smallest_holder ns views))

@@ -35,6 +35,7 @@ some_station (x ∷ ns) views n = omega arith
 
 some_in : (ns : List ℕ) (x : ℕ) → x ∈ ns → 0 < length ns
 some_in (y ∷ ns) x m = omega arith
+some_in [] x m = elim m [ ]
 
 -- one event, and what is made from the ring after it
 module _ {left : ℕ} {ring : Ring} (event : Event) {events : List Event} (p : Proper ring) (n : ¬ Agreed (stations_of ring) (views_of ring))
@@ -136,8 +137,8 @@ module _ (ring : Ring) (is : is_ring ring ≡ true) where
       ends : 0 < length (stations_of ring)
           → (length (run_of ring) ≡ limit_of ring) ⊎ Agreed (stations_of ring) (views_after (stations_of ring) (views_of ring) (run_of ring))
           → Agreed (stations_of ring) (views_after (stations_of ring) (views_of ring) (run_of ring))
-      ends some (inl e) = absurd (not_all some e)
-      ends some (inr a) = a
+      ends here (inl e) = absurd (not_all here e)
+      ends here (inr a) = a
 
 -- any other value makes no step
 no_steps : (ring : Ring) → limit_of ring ≡ 0 → run_of ring ≡ []

@@ -1,5 +1,6 @@
 // The run that `settle` makes: its beginning, its end, and the steps that it counts.
 #![tactic(auto)]
+
 ghost use Rattle.std.specs.Prelude.{◌≡◌};
 ghost use Rattle.settle_run.specs.Run.{is_ring, limit_of};
 ghost use Rattle.settle_run.specs.Running.{one_more, added, running_of, has_ended};

@@ -3,7 +3,7 @@ use Rattle.std.specs.Prelude.{◌≡◌, ◌&&◌, ◌∷◌}
 use Rattle.laws.specs.Usual.{[], refl, sym, ap₂, ◌∙◌, Bool, true, false, cond, List, ℕ, arith}
 use Rattle.frame.specs.Codes.{is_cyclic}
 use Rattle.station.specs.Rules.Calls.{Call, start, stop, tick, hear, ask, lent, refused_by, unrefused, verdict, switched_verdict, heard_verdict, asked_verdict}
-use Rattle.station.proofs.Outcomes.HearCases.{hear_cases}
+use Rattle.station.proofs.Outcomes.HearCases.{entering, hear_cases}
 use Rattle.station.specs.Outcomes.HearCases.{EnterCases, off, begins, joins, passes, reads, lists, ignores, HearCases, refuses, turns_off, gathers, heeds}
 use Rattle.station.specs.Rules.Hearing.{Hearing, accepted}
 use Rattle.station.specs.Rules.Starting.{Switching}
@@ -46,13 +46,8 @@ accepted_unrefused station frame octets memory assembly =
 
 -- hearing: what is left where the answer is a refusal
 entered_accepted : {station left : Station} {frame : Fields} {answer : Heard} → EnterCases station frame left answer → heard_verdict answer ≡ unrefused
-entered_accepted (off e) = refl
-entered_accepted (begins e c) = refl
-entered_accepted (joins e c) = refl
-entered_accepted (passes e c) = refl
-entered_accepted (reads e c) = refl
-entered_accepted (lists e c) = refl
-entered_accepted (ignores e) = refl
+entered_accepted entered =
+    entering (λ left answer. heard_verdict answer ≡ unrefused) (λ e. refl) (λ e c. refl) (λ e c. refl) (λ e c. refl) (λ e c. refl) (λ e c. refl) (λ e. refl) entered
 
 hear_keeps : {station : Station} {octets memory assembly : List ℕ} {result : Hearing} (refusal : Refusal) → HearCases station octets memory assembly result →
     heard_verdict result.answer ≡ refused_by refusal →

@@ -1,5 +1,6 @@
 // The octets that hexadecimal digits spell.
 #![tactic(auto)]
+
 ghost use Rattle.std.specs.Prelude.{◌≡◌, ◌+◌, ◌*◌, ◌<◌};
 ghost use Rattle.laws.specs.Usual.{length, take};
 ghost use Rattle.copying.specs.Pasted.{pasted};

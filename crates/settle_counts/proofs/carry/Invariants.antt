@@ -2,7 +2,6 @@ use Rattle.std.specs.Prelude.{◌≡◌, ◌-◌, ◌<◌}
 use Rattle.laws.specs.Usual.{arith, length, get_or, rules}
 use mir.Val.{Fits}
 use mir.Syntax.{w16}
-use Rattle.settle_counts.proofs.Loops.{carrying_none, carrying_more, carrying_all}
 use Rattle.settle_counts.specs.Loops.{Carrying}
 use Rattle.settle_counts.proofs.carry.Given as goal
 

@@ -1,46 +1,26 @@
 -- `settle_counts::count` meets its contract.
-use Rattle.std.specs.Prelude.{◌≡◌, ◌-◌, ◌<◌, ◌≤◌}
+use Rattle.std.specs.Prelude.{◌≡◌, ◌-◌, ◌<◌}
 use Rattle.laws.specs.Usual.{ap, ◌∙◌, ℕ, arith, get_or, rules}
 use mir.Val.{Fits}
 use mir.Syntax.{w8}
 use Rattle.settle_counts.specs.Counts.{with_total}
 use Rattle.settle_counts.proofs.Loops.{counting_none, counting_skip, counting_more, counting_all}
-use Rattle.settle_counts.specs.Loops.{Counting}
 use Rattle.settle_counts.proofs.count.Goals as goal
-
--- a view is an octet
-octet : (c : tie.Then1 invariant_loop decreases_loop) → get_or c.args.ring.views (c.loop-station.station - 1) 0 < 256
-octet c =
-    let fits : Fits w8 (get_or c.args.ring.views (c.loop-station.station - 1) 0) = search rules in
-    fits.fits
 
 pub loop-station-init : goal.loop-station-init
 loop-station-init c = (counting_none c.args.ring.views (search rules), omega arith)
 
-pub overflow_sub-station : goal.overflow_sub-station
-overflow_sub-station c = omega arith
-
-pub bounds-views-station : goal.bounds-views-station
-bounds-views-station c = omega arith
-
-pub offset_bounds-numbers-view : goal.offset_bounds-numbers-view
-offset_bounds-numbers-view c = record { fits = omega (arith, octet c) }
-
-pub bounds-numbers-view : goal.bounds-numbers-view
-bounds-numbers-view c = octet c
-
 pub overflow_add-numbers : goal.overflow_add-numbers
 overflow_add-numbers c =
     let loop = c.loop-station in
-    record { fits = omega (arith, loop.invariant.0.few _ (octet c)) }
-
-pub bounds-numbers-view-then-view-ne0 : goal.bounds-numbers-view-then-view-ne0
-bounds-numbers-view-then-view-ne0 c = octet c
+    let fits : Fits w8 (get_or c.args.ring.views (loop.station - 1) 0) = search rules in
+    record { fits = omega (arith, loop.invariant.0.few _ fits.fits) }
 
 pub loop-station-preserved-then-view-ne0 : goal.loop-station-preserved-then-view-ne0
 loop-station-preserved-then-view-ne0 c =
     let loop = c.loop-station in
-    (counting_more (search rules) c.loop-station-test.true loop.invariant.1 loop.invariant.0 c.if-view-ne0.true (octet c), omega (arith, loop.invariant.1))
+    let fits : Fits w8 (get_or c.args.ring.views (loop.station - 1) 0) = search rules in
+    (counting_more (search rules) c.loop-station-test.true loop.invariant.1 loop.invariant.0 c.if-view-ne0.true fits.fits, omega (arith, loop.invariant.1))
 
 pub loop-station-preserved : goal.loop-station-preserved
 loop-station-preserved c =

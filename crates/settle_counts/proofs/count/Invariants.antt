@@ -3,7 +3,6 @@ use Rattle.laws.specs.Usual.{ap, ◌∙◌, ℕ, arith, get_or, rules}
 use mir.Val.{Fits}
 use mir.Syntax.{w8}
 use Rattle.settle_counts.specs.Counts.{with_total}
-use Rattle.settle_counts.proofs.Loops.{counting_none, counting_skip, counting_more, counting_all}
 use Rattle.settle_counts.specs.Loops.{Counting}
 use Rattle.settle_counts.proofs.count.Given as goal
 

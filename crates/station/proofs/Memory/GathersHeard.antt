@@ -10,7 +10,7 @@ use Rattle.station.specs.Rules.Data.{same_areas, is_next}
 use Rattle.station.specs.Memory.Gathers.{accepted_after, Parts, more, Gathers}
 use Rattle.station.proofs.Memory.Gathers.{gathers_nothing, before_next, gathers_without}
 use Rattle.station.specs.Outcomes.HearCases.{FromMember, writes, keeps, repeats, drops, off, begins, joins, passes, reads, lists, ignores, HearCases, refuses, turns_off, gathers, heeds}
-use Rattle.station.proofs.Outcomes.HearCases.{awaits_outside, whole_of, hear_cases}
+use Rattle.station.proofs.Outcomes.HearCases.{entering, awaits_outside, whole_of, hear_cases}
 use Rattle.station.specs.Rules.Hearing.{Hearing, hear_of}
 use Rattle.station.proofs.States.KeepsEntering.{same_octets}
 use Rattle.station.specs.States.Reachable.{Sound}
@@ -77,13 +77,10 @@ module _ {heard : List (List ℕ)} (station : Station) (octets memory assembly :
   gathers_in (gathers frame from (keeps areas new next last)) = rw (data_outcome station frame Kept) (kept_gathers frame from areas next last)
   gathers_in (gathers frame from (repeats areas again)) = rw (data_outcome station frame Repeat) before
   gathers_in (gathers frame from (drops why)) = gathers_nothing assembly
-  gathers_in (heeds frame facts (off e)) = before
-  gathers_in (heeds frame facts (begins e c)) = gathers_nothing assembly
-  gathers_in (heeds frame facts (joins e c)) = gathers_nothing assembly
-  gathers_in (heeds frame facts (passes e c)) = unheld (awaits_outside e) (octets ∷ heard)
-  gathers_in (heeds frame facts (reads e c)) = unheld (rw e) (octets ∷ heard)
-  gathers_in (heeds frame facts (lists e c)) = gathers_without frame.source station.gathering assembly before
-  gathers_in (heeds frame facts (ignores e)) = before
+  gathers_in (heeds frame facts entered) =
+      entering (λ left answer. Keeps (record { station = left; answer = answer; memory = memory; assembly = assembly })) (λ e. before)
+      (λ e c. gathers_nothing assembly) (λ e c. gathers_nothing assembly) (λ e c. unheld (awaits_outside e) (octets ∷ heard))
+      (λ e c. unheld (rw e) (octets ∷ heard)) (λ e c. gathers_without frame.source station.gathering assembly before) (λ e. before) entered
 
   pub hear_gathers : Keeps (hear_of station octets memory assembly)
   hear_gathers = gathers_in (hear_cases station octets memory assembly)

@@ -8,7 +8,7 @@ use Rattle.frame_reading.specs.Reading.{read_header_of, read_body_of}
 use Rattle.station.specs.Rules.Answers.{data_of}
 use Rattle.station.specs.Rules.Data.{turn_written, same_areas, is_next}
 use Rattle.station.specs.Outcomes.HearCases.{writes, keeps, repeats, drops, EnterCases, off, begins, joins, passes, reads, lists, ignores, HearCases, refuses, turns_off, gathers, heeds}
-use Rattle.station.proofs.Outcomes.HearCases.{hear_cases}
+use Rattle.station.proofs.Outcomes.HearCases.{entering, hear_cases}
 use Rattle.station.specs.Rules.Hearing.{Hearing, lent_right, hear_of}
 use Rattle.station.specs.Rules.State.{is_participating}
 use Rattle.station.specs.Rules.Token.{view_heard, takes, outcome_of}
@@ -75,13 +75,8 @@ written_said token w = ap (says is_written) w.0 ∙ ap is_written w.1
 -- of a frame that a participant does not gather from, the data are dropped
 pub entered_unsaid : (test : Data → Bool) → test Dropped ≡ false → {station left : Station} {frame : Fields} {answer : Heard} → EnterCases station frame left answer
     → says test answer ≡ false
-entered_unsaid test d (off e) = refl
-entered_unsaid test d (begins e c) = refl
-entered_unsaid test d (joins e c) = d
-entered_unsaid test d (passes e c) = d
-entered_unsaid test d (reads e c) = d
-entered_unsaid test d (lists e c) = refl
-entered_unsaid test d (ignores e) = refl
+entered_unsaid test d entered =
+    entering (λ left answer. says test answer ≡ false) (λ e. refl) (λ e c. refl) (λ e c. d) (λ e c. d) (λ e c. d) (λ e c. refl) (λ e. refl) entered
 
 module _ (station : Station) (octets memory assembly : List ℕ) where
   -- the answer is a cyclic one whose data outcome is "written"

@@ -10,7 +10,7 @@ use Rattle.frame_round_trip.proofs.Shown.{block_is}
 use Rattle.members.specs.Members.{entry_of}
 use Rattle.station.proofs.Memory.MemorySame.{outcome_said, entered_unsaid, says}
 use Rattle.station.proofs.Memory.TurnJoined.{data_long}
-use Rattle.station.proofs.Outcomes.HearCases.{awaits_outside, whole_of, hear_cases}
+use Rattle.station.proofs.Outcomes.HearCases.{entering, awaits_outside, whole_of, hear_cases}
 use Rattle.station.specs.Outcomes.HearCases.{FromMember, repeats?, writes, keeps, repeats, drops, EnterCases, off, begins, joins, passes, reads, lists, ignores, HearCases, refuses, turns_off, gathers, heeds}
 use Rattle.station.specs.Rules.Answers.{data_of}
 use Rattle.station.specs.Rules.Data.{same_areas}
@@ -74,13 +74,10 @@ module _ (station : Station) (octets memory assembly : List ℕ) where
 
     entered_in : {left : Station} {read : Fields} {answer : Heard} → EnterCases station read left answer → says any answer ≡ true
         → says is_repeated answer ≡ true
-    entered_in (off p) e = absurd (false≢true e)
-    entered_in (begins p c) e = absurd (false≢true e)
-    entered_in (joins p c) e = absurd (false≢true (sym (awaits_outside p) ∙ r.participating))
-    entered_in (passes p c) e = absurd (false≢true (sym (awaits_outside p) ∙ r.participating))
-    entered_in (reads p c) e = absurd (false≢true (rw p at r.participating))
-    entered_in (lists p c) e = absurd (false≢true e)
-    entered_in (ignores p) e = absurd (false≢true e)
+    entered_in entered =
+        entering (λ left answer. says any answer ≡ true → says is_repeated answer ≡ true) (λ p e. absurd (false≢true e)) (λ p c e. absurd (false≢true e))
+        (λ p c e. absurd (false≢true (sym (awaits_outside p) ∙ r.participating))) (λ p c e. absurd (false≢true (sym (awaits_outside p) ∙ r.participating)))
+        (λ p c e. absurd (false≢true (rw p at r.participating))) (λ p c e. absurd (false≢true e)) (λ p e. absurd (false≢true e)) entered
 
     says_in : {result : Hearing} → HearCases station octets memory assembly result → says any result.answer ≡ true → says is_repeated result.answer ≡ true
     says_in (refuses refusal) e = absurd (false≢true e)

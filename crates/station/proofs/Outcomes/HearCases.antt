@@ -12,11 +12,14 @@ use Rattle.frame_reading.specs.Reading.{and_then, read_header_of, read_body_of, 
 use Rattle.frame_round_trip.proofs.Accepted.{accepted as passed, bodied}
 use Rattle.frame_round_trip.specs.Accepted.{Accepted}
 use Rattle.station.specs.Rules.Data.{turn_written, same_areas, is_next, repeated, dropped, gathered}
-use Rattle.station.specs.Rules.Hearing.{enters, enters_answer, participant_heard, accepted, is_taken, knows, is_stranger, lent_right, refused, body_heard, header_heard, hear_of}
-use Rattle.station.specs.Rules.State.{is_off, is_participating, nothing, stopped}
-use Rattle.station.specs.Types.{Areas, Fields, Code, Read, Frame, Refused, Phase, Off, Listening, Startup, Joining, Participating, Station, Kept, Written}
-use Rattle.station.specs.Outcomes.HearCases.{Accepts, FromMember, repeats?, GatherCases, writes, keeps, repeats, drops, Awaits, listening_awaits, startup_awaits, Lists, startup_lists, participant_lists, Unnamed, listening_request, startup_trigger, joining_request, joining_trigger, participating_trigger, off, begins, joins, passes, reads, lists, ignores, HearCases, refuses, turns_off, gathers, heeds}
+use Rattle.station.specs.Rules.Hearing.{requested, enters, enters_answer, participant_heard, accepted, is_taken, knows, is_stranger, lent_right, refused, body_heard, header_heard, hear_of}
+use Rattle.station.specs.Rules.Starting.{joined_by}
+use Rattle.station.specs.Rules.State.{fresh, is_off, is_participating, nothing, stopped}
+use Rattle.station.specs.Types.{Heard, Dropped, Areas, Fields, Code, Read, Frame, Refused, Phase, Off, Listening, Startup, Joining, Participating, Station, Kept, Written}
+use Rattle.station.specs.Outcomes.HearCases.{EnterCases, Accepts, FromMember, repeats?, GatherCases, writes, keeps, repeats, drops, Awaits, listening_awaits, startup_awaits, Lists, startup_lists, participant_lists, Unnamed, listening_request, startup_trigger, joining_request, joining_trigger, participating_trigger, off, begins, joins, passes, reads, lists, ignores, HearCases, refuses, turns_off, gathers, heeds}
 use Rattle.frame.specs.declared.Refusal.TheVariants as refusals
+use Rattle.station.specs.declared.Heard.TheVariants as answers
+use Rattle.station.specs.declared.Token.TheVariants as tokens
 
 -- octets that pass both parts of the reading pass every test
 pub read_both : (octets : List ℕ) (frame : Fields) → read_header_of octets ≡ Frame frame → read_body_of (length octets) frame ≡ Frame frame → Accepted octets frame
@@ -161,3 +164,22 @@ module _ (station : Station) (octets memory assembly : List ℕ) where
           (cond right (header_heard station octets memory assembly (read_header_of octets)) (refused station memory assembly refusals.Buffer))
       by true l = header_cases l (read_header_of octets) refl
       by false l = refuses refusals.Buffer
+
+-- What holds of each of the ways in which a frame enters holds of what was entered. (A proof that goes by these ways cites this: the state that
+-- is left is given to it as a variable.)
+module _ {station : Station} {frame : Fields} where
+  pub entering : (P : Station → Heard → Type 0) → (station.phase ≡ Off → P station answers.Off)
+      → (station.phase ≡ Listening → frame.code ≡ Trigger → P (fresh Startup station.own) answers.Done)
+      → (Awaits station.phase → frame.code ≡ Token → P (joined_by (fresh Joining station.own) frame) (answers.Cyclic (tokens.None Dropped)))
+      → (Awaits station.phase → frame.code ≡ Cyclic → P station (answers.Cyclic (tokens.None Dropped)))
+      → (station.phase ≡ Joining → is_cyclic frame.code ≡ true → P (joined_by station frame) (answers.Cyclic (tokens.None Dropped)))
+      → (Lists station.phase → frame.code ≡ Request → P (requested station frame) answers.Done)
+      → (Unnamed station.phase frame.code → P station answers.Done)
+      → {left : Station} {answer : Heard} → EnterCases station frame left answer → P left answer
+  entering P o b j p r l i (off e) = o e
+  entering P o b j p r l i (begins e c) = b e c
+  entering P o b j p r l i (joins e c) = j e c
+  entering P o b j p r l i (passes e c) = p e c
+  entering P o b j p r l i (reads e c) = r e c
+  entering P o b j p r l i (lists e c) = l e c
+  entering P o b j p r l i (ignores e) = i e

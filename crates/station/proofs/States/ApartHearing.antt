@@ -9,7 +9,7 @@ use Rattle.frame_writing.specs.Writing.{no_areas}
 use Rattle.station.proofs.States.Disjoint.{disjoint_misses, clear_misses, disjoint_listing, clear_listing}
 use Rattle.station.specs.States.Disjoint.{Disjoint, Clear, Apart}
 use Rattle.station.proofs.States.ApartTicking.{fresh_apart}
-use Rattle.station.proofs.Outcomes.HearCases.{awaits_on}
+use Rattle.station.proofs.Outcomes.HearCases.{entering, awaits_on}
 use Rattle.station.specs.Outcomes.HearCases.{off, begins, joins, passes, reads, lists, ignores, HearCases, refuses, turns_off, gathers, heeds}
 use Rattle.station.specs.Rules.Hearing.{requested, Hearing}
 use Rattle.station.proofs.States.KeepsEntering.{same_fallen}
@@ -68,14 +68,11 @@ module _ (station : Station) (ok : Sound station) (apart : Apart station) where
     listed = disjoint_misses station.members frame.source 0 apart.listed;
     ours = λ z. clear_misses station.members frame.source 0 station.own.areas (apart.ours (rw from.participates));
   }
-  hear_apart (heeds frame facts (off e)) = apart
-  hear_apart (heeds frame facts (begins e c)) = fresh_apart Startup station.own
-  hear_apart (heeds frame facts (joins e c)) =
-      joined_apart (fresh Joining station.own) frame refl (fresh_apart Joining station.own) (ok.ours (awaits_on e)).number (omega arith) (λ z. refl)
-  hear_apart (heeds frame facts (passes e c)) = apart
-  hear_apart (heeds frame facts (reads e c)) = joined_apart station frame e apart (ok.ours (rw e)).number ok.rounds ok.unwaited
-  hear_apart (heeds frame facts (lists e c)) = requested_apart frame
-  hear_apart (heeds frame facts (ignores e)) = apart
+  hear_apart (heeds frame facts entered) =
+      entering (λ left answer. Apart left) (λ e. apart) (λ e c. fresh_apart Startup station.own)
+      (λ e c. joined_apart (fresh Joining station.own) frame refl (fresh_apart Joining station.own) (ok.ours (awaits_on e)).number (omega arith) (λ z. refl))
+      (λ e c. apart) (λ e c. joined_apart station frame e apart (ok.ours (rw e)).number ok.rounds ok.unwaited) (λ e c. requested_apart frame)
+      (λ e. apart) entered
 
   pub ask_apart : {memory turn output : List ℕ} {result : Asking} → on_asking.AskCases station memory turn output result → Apart result.station
   ask_apart (on_asking.refuses refusal) = apart

@@ -21,7 +21,7 @@ use Rattle.station.specs.States.Reached.{AllTyped, Unshared}
 -- what more calls leave can be reached too
 pub reached_by : {station : Station} (calls : List Call) → Reachable station → AllTyped calls → Reachable (after_all after station calls)
 reached_by [] reached typed = reached
-reached_by (call ∷ calls) reached typed = reached_by calls (called call reached typed.0) typed.1
+reached_by {station = station} (call ∷ calls) reached typed = reached_by {station = after station call} calls (called call reached typed.0) typed.1
 
 module _ (calls : List Call) (typed : AllTyped calls) where
   pub sound_after : Sound (after_all after never calls)

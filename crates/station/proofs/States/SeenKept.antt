@@ -3,7 +3,7 @@
 use Rattle.std.specs.Prelude.{◌≡◌}
 use Rattle.laws.specs.Usual.{refl, Bool, true, false, cond, false≢true, List, ℕ}
 use Rattle.station.specs.Rules.Calls.{Call, start, stop, tick, hear, ask, after}
-use Rattle.station.proofs.Outcomes.HearCases.{hear_cases}
+use Rattle.station.proofs.Outcomes.HearCases.{entering, hear_cases}
 use Rattle.station.specs.Outcomes.HearCases.{off, begins, joins, passes, reads, lists, ignores, HearCases, refuses, turns_off, gathers, heeds}
 use Rattle.station.specs.Rules.Hearing.{Hearing}
 use Rattle.station.proofs.States.KeepsEntering.{view_has}
@@ -40,14 +40,10 @@ module _ (station : Station) (ok : Sound station) (seen : Seen station) (elsewhe
   hear_seen (gathers frame from parts) =
       λ z. known_misses station.own.number station.members frame.source 0 (view_heard station.view frame)
       (view_has (Known station.own.number station.members) station.view frame (seen (rw from.participates)) from.destination)
-  hear_seen (heeds frame facts (off e)) = seen
-  hear_seen (heeds frame facts (begins e c)) = λ p. absurd (false≢true p)
-  hear_seen (heeds frame facts (joins e c)) = λ p. absurd (false≢true p)
-  hear_seen (heeds frame facts (passes e c)) = seen
-  hear_seen (heeds frame facts (reads e c)) = absurd (elsewhere e)
-  hear_seen (heeds frame facts (lists e c)) =
-      λ p. known_with station.own.number station.members frame.source _ station.view (λ same l. refl) (seen p)
-  hear_seen (heeds frame facts (ignores e)) = seen
+  hear_seen (heeds frame facts entered) =
+      entering (λ left answer. Seen left) (λ e. seen) (λ e c p. absurd (false≢true p)) (λ e c p. absurd (false≢true p)) (λ e c. seen)
+      (λ e c. absurd (elsewhere e))
+      (λ e c p. known_with station.own.number station.members frame.source _ station.view (λ same l. refl) (seen p)) (λ e. seen) entered
 
   sent_seen : station.phase ≡ Participating → (last : Bool)
       → Known station.own.number station.members (cond last (next_station station) station.view)
