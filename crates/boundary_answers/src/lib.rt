@@ -1,5 +1,6 @@
 // The answers as numbers, for C.
 #![tactic(auto)]
+
 ghost use Rattle.std.specs.Prelude.{◌≡◌};
 ghost use Rattle.boundary_answers.specs.Numbers.{off_answer, done_answer, refused_answer, frame_answer};
 

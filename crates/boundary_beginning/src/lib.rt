@@ -1,6 +1,7 @@
 // A phase that begins, on the core and the arrays that hold the list: with an empty list, and what stood in them is not looked at; or
 // participating, with the list as it stands.
 #![tactic(auto)]
+
 ghost use Rattle.std.specs.Prelude.{◌≡◌};
 ghost use Rattle.boundary_core.specs.Crossing.{core_of};
 ghost use Rattle.boundary_lists.specs.Lists.{members_in};

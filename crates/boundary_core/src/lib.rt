@@ -1,5 +1,6 @@
 // The state as numbers, for C.
 #![tactic(auto)]
+
 mod phase;
 
 pub use boundary_answers::{Answer, Route};

@@ -1,5 +1,6 @@
 // What a heard block is to what was gathered: of the listed areas, a repeat, the next one.
 #![tactic(auto)]
+
 ghost use Rattle.std.specs.Prelude.{◌≡◌, ◌&&◌, ◌+◌, ◌≤◌};
 ghost use Rattle.laws.specs.Usual.{length, eqb};
 ghost use Rattle.area.specs.Areas.{memory_octets};

@@ -1,5 +1,6 @@
 // Messages, one to one and to all: what one is, what becomes of it, and what is answered.
 #![tactic(auto)]
+
 use frame::Refusal;
 use station::Heard;
 

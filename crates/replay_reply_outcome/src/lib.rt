@@ -1,5 +1,6 @@
 // The line for a cyclic frame that was accepted: what became of the token, then what became of the data.
 #![tactic(auto)]
+
 ghost use Rattle.std.specs.Prelude.{◌≡◌, ◌++◌, ◌+◌, ◌≤◌};
 ghost use Rattle.laws.specs.Usual.{length};
 ghost use Rattle.copying.specs.Pasted.{pasted};

@@ -1,5 +1,6 @@
 // What `settle` has still to print, with only the last steps of its run.
 #![tactic(auto)]
+
 ghost use Rattle.std.specs.Prelude.{◌≡◌, ◌-◌};
 ghost use Rattle.settle_rest.specs.Rest.{shortened};
 ghost use Rattle.settle_run.specs.Counted.{running_after};

@@ -1,5 +1,6 @@
 // What `settle` prints, part by part in a lent buffer: each part is as many whole lines as the buffer takes.
 #![tactic(auto)]
+
 ghost use Rattle.std.specs.Prelude.{◌≡◌, ◌≤◌};
 ghost use Rattle.laws.specs.Usual.{not, length};
 ghost use Rattle.copying.specs.Pasted.{pasted};

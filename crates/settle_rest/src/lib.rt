@@ -1,5 +1,6 @@
 // What `settle` has still to print.
 #![tactic(auto)]
+
 ghost use Rattle.std.specs.Prelude.{◌≡◌};
 ghost use Rattle.settle_rest.specs.Rest.{stage_of, printing_of, is_over};
 

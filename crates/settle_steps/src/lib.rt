@@ -1,5 +1,6 @@
 // One step of the run that `settle` makes, and the whole with both counts.
 #![tactic(auto)]
+
 ghost use Rattle.std.specs.Prelude.{◌≡◌};
 ghost use Rattle.laws.specs.Usual.{length};
 ghost use Rattle.settle_moves.specs.Moves.{moved};

@@ -1,5 +1,6 @@
 // The parts that the states of a station are made of: values with nothing in them, a taking, and the place in a turn.
 #![tactic(auto)]
+
 ghost use Rattle.std.specs.Prelude.{◌≡◌};
 ghost use Rattle.laws.specs.Usual.{cond, eqb};
 ghost use Rattle.panel.specs.Panel.{after_taking};

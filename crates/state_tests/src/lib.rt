@@ -1,5 +1,6 @@
 // Tests of a phase and of a view.
 #![tactic(auto)]
+
 ghost use Rattle.std.specs.Prelude.{◌≡◌};
 ghost use Rattle.station.specs.Rules.State.{is_off, is_participating, holds as holds_of};
 ghost use Rattle.station.specs.Rules.Token.{takes as takes_of};

@@ -1,5 +1,6 @@
 // A wait counted tick by tick, and when it ends.
 #![tactic(auto)]
+
 ghost use Rattle.std.specs.Prelude.{◌≡◌, ◌+◌};
 ghost use Rattle.station.specs.Rules.Ticking.{later as later_of, wait_ends, waited_then};
 

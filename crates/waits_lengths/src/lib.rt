@@ -1,5 +1,6 @@
 // The waits of clause 8.7, in ticks.
 #![tactic(auto)]
+
 ghost use Rattle.std.specs.Prelude.{◌≡◌, ◌+◌};
 ghost use Rattle.station.specs.Rules.Waits.{detection_wait, acceptance_time, number_wait, trigger_wait, listening_time};
 

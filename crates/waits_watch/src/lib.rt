@@ -1,5 +1,6 @@
 // How long the watch runs, in milliseconds and in ticks, and when it ends.
 #![tactic(auto)]
+
 ghost use Rattle.std.specs.Prelude.{◌≡◌, ◌||◌, ◌+◌};
 ghost use Rattle.laws.specs.Usual.{cond, not, leb};
 ghost use Rattle.station.specs.Rules.Waits.{watch_ticks, counts_as, longest_watch};

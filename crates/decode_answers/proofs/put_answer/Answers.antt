@@ -9,7 +9,7 @@ returns-in-Frame c = rw (c.in-Heard.is, c.in-Frame.is) c.put_frame.ensures
 
 pub returns-in-Refused : goal.returns-in-Refused
 unfolding text_of
-returns-in-Refused c = rw (c.in-Heard.is, c.in-Refused.is) c.Put-refused.ensures
+returns-in-Refused c = rw (c.in-Heard.is, c.in-Refused.is) c.put_refused.ensures
 
 pub returns-in-Bad : goal.returns-in-Bad
 unfolding text_of
