@@ -1,6 +1,7 @@
 // Our place in our turn: whether there is a next block, whether it is the last, and what sending it changes. And whether the buffers that are lent
 // for sending it are right.
 #![tactic(auto)]
+
 ghost use Rattle.std.specs.Prelude.{◌≡◌, ◌&&◌, ◌+◌};
 ghost use Rattle.laws.specs.Usual.{true, cond, eqb};
 ghost use Rattle.panel.specs.Panel.{after_taking};

@@ -1,5 +1,6 @@
 // The answer to a cyclic frame as numbers, for C.
 #![tactic(auto)]
+
 ghost use Rattle.std.specs.Prelude.{◌≡◌};
 ghost use Rattle.boundary_answers.specs.Numbers.{cyclic_answer};
 ghost use Rattle.station.specs.Rules.Answers.{data_number, token_number, data_of};

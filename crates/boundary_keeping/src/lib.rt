@@ -1,5 +1,6 @@
 // A core put into the numbers that C keeps, in place.
 #![tactic(auto)]
+
 ghost use Rattle.std.specs.Prelude.{◌≡◌, ◌≤◌};
 ghost use Rattle.boundary_places.specs.Places.{core_in, with_phase, kept};
 

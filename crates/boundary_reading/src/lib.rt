@@ -1,5 +1,6 @@
 // The core taken out of the numbers that C keeps.
 #![tactic(auto)]
+
 ghost use Rattle.std.specs.Prelude.{◌≡◌};
 ghost use Rattle.laws.specs.Usual.{length};
 ghost use Rattle.boundary_places.specs.Places.{phase_in, settings_in, gathering_in, panel_in, core_in};

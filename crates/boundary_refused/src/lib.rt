@@ -1,5 +1,6 @@
 // Frames that are refused, on the core alone, and a core that nothing alters.
 #![tactic(auto)]
+
 ghost use Rattle.std.specs.Prelude.{◌≡◌};
 ghost use Rattle.boundary_refused.specs.Kept.{kept_core};
 ghost use Rattle.boundary_refused.specs.Unheard.{heard_refusal};

@@ -1,5 +1,6 @@
 // What an answer tells of the frame that was heard, for C.
 #![tactic(auto)]
+
 ghost use Rattle.std.specs.Prelude.{◌≡◌};
 ghost use Rattle.frame_reading.specs.Reading.{read_body_of};
 ghost use Rattle.boundary_told.specs.Told.{route_of, route_read, with_frame};

@@ -1,5 +1,6 @@
 // Putting a turn's blocks together, and writing the turn to the common memory.
 #![tactic(auto)]
+
 ghost use Rattle.std.specs.Prelude.{◌≡◌, ◌+◌, ◌≤◌};
 ghost use Rattle.laws.specs.Usual.{true, length};
 ghost use Rattle.area.specs.Areas.{in_range, memory_octets};

@@ -1,5 +1,6 @@
 // What joining notes of a cyclic frame beside its source: the end of a round, the token detection wait and the token's destination.
 #![tactic(auto)]
+
 ghost use Rattle.std.specs.Prelude.{◌≡◌, ◌+◌};
 ghost use Rattle.laws.specs.Usual.{cond, min};
 ghost use Rattle.frame.specs.Codes.{is_token};

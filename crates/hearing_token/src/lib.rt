@@ -1,5 +1,6 @@
 // What a frame does to the token view, and what is answered to it.
 #![tactic(auto)]
+
 ghost use Rattle.std.specs.Prelude.{◌≡◌};
 ghost use Rattle.hearing_token.specs.Parts.{outcome_by};
 ghost use Rattle.station.specs.Rules.Hearing.{enters_answer};

@@ -1,5 +1,6 @@
 // The message part in the numbers that C keeps: what they hold, and what is put into them.
 #![tactic(auto)]
+
 use message::{Cycle, Slot};
 
 // How many there are: of the outgoing side, and of the confirmations owed.

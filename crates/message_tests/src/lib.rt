@@ -1,5 +1,6 @@
 // Tests of a message: of its destination and of its slot.
 #![tactic(auto)]
+
 ghost use Rattle.std.specs.Prelude.{◌≡◌};
 ghost use Rattle.message.specs.Codes.{to_all};
 ghost use Rattle.message_rules.specs.Rules.Again.{is_waiting, is_unconfirmed, is_open, is_due, is_to_go};

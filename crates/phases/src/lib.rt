@@ -1,5 +1,6 @@
 // The state of a station that is off, and at the beginning of a phase with an empty list.
 #![tactic(auto)]
+
 ghost use Rattle.std.specs.Prelude.{◌≡◌};
 ghost use Rattle.station.specs.Rules.State.{fresh as fresh_of, stopped as stopped_of, never as never_of};
 ghost use Rattle.station.specs.declared.Phase.TheVariants.{Off};

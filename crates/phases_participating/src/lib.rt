@@ -1,5 +1,6 @@
 // A station that participates: its beginning, the restart of its watch, and what its panel shows.
 #![tactic(auto)]
+
 ghost use Rattle.std.specs.Prelude.{◌≡◌};
 ghost use Rattle.laws.specs.Usual.{cond};
 ghost use Rattle.panel.specs.Panel.{figure_of};

@@ -1,5 +1,6 @@
 // What a line of the program `replay`'s input means.
 #![tactic(auto)]
+
 ghost use Rattle.std.specs.Prelude.{◌≡◌};
 ghost use Rattle.replay_words.specs.Words.{words_behind};
 ghost use Rattle.replay_commands.specs.Commands.{start_by, start_of, tick_of, poke_by, poke_of, peek_of, hear_of, numbered, short_of, command_by, command_in};

@@ -1,6 +1,7 @@
 // The line that `replay` prints for what a station answers to `start`, `stop` and `hear`, written in front of a lent output. Each function
 // answers the line's length.
 #![tactic(auto)]
+
 ghost use Rattle.std.specs.Prelude.{◌≡◌, ◌≤◌};
 ghost use Rattle.laws.specs.Usual.{length};
 ghost use Rattle.copying.specs.Pasted.{pasted};

@@ -1,5 +1,6 @@
 // The line that `replay` prints for what a station answers to `ask`, written in front of a lent output. Each function answers the line's length.
 #![tactic(auto)]
+
 ghost use Rattle.std.specs.Prelude.{◌≡◌, ◌+◌, ◌*◌, ◌≤◌};
 ghost use Rattle.laws.specs.Usual.{length};
 ghost use Rattle.copying.specs.Pasted.{pasted};

@@ -1,6 +1,7 @@
 // The lines of one word that `replay` answers, and the line for a refusal, written in front of a lent output. Each function answers the line's
 // length.
 #![tactic(auto)]
+
 ghost use Rattle.std.specs.Prelude.{◌≡◌, ◌≤◌};
 ghost use Rattle.laws.specs.Usual.{length};
 ghost use Rattle.copying.specs.Pasted.{pasted};

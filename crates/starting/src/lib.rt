@@ -1,5 +1,6 @@
 // Starting and stopping a station.
 #![tactic(auto)]
+
 ghost use Rattle.std.specs.Prelude.{◌≡◌, ◌&&◌};
 ghost use Rattle.laws.specs.Usual.{ltb};
 ghost use Rattle.frame_reading.specs.Reading.{is_station};

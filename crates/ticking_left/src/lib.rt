@@ -1,5 +1,6 @@
 // The ticks before the next end of a wait or of the watch.
 #![tactic(auto)]
+
 ghost use Rattle.std.specs.Prelude.{◌≡◌, ◌&&◌};
 ghost use Rattle.laws.specs.Usual.{not, min, eqb};
 ghost use Rattle.station.specs.Rules.Waits.{detection_wait, acceptance_time, number_wait};

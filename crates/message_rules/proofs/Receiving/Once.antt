@@ -239,7 +239,7 @@ module _ (source : ℕ) (kind : Bool) (version_is number : ℕ) (some : ¬ (vers
       → letter.source ≡ source → kind_of letter ≡ kind → letter.number ≡ number → Lies source kind number both calls
   between [] long remembers hands_over s k n = absurd (not_handed remembers hands_over s k n)
   between {both} (one ∷ calls) long remembers hands_over s k n =
-      by (step_keeps (sources_move both one) refl long remembers) (λ still. between calls (long_moves (sources_move both one) long) still hands_over s k n)
+      by (step_keeps (sources_move both one) refl long remembers) (λ still. between {both = after both one} calls (long_moves (sources_move both one) long) still hands_over s k n)
     where
       by : Disturbs source kind number both one ⊎ Remembers source kind version_is number (after both one).messages.sources
           → (Remembers source kind version_is number (after both one).messages.sources → Lies source kind number (after both one) calls)
