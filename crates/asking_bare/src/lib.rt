@@ -1,5 +1,6 @@
 // The frames that we send without data: the fields of our request and of our trigger, and how they are written.
 #![tactic(auto)]
+
 ghost use Rattle.std.specs.Prelude.{◌≡◌, ◌≤◌};
 ghost use Rattle.laws.specs.Usual.{[], length};
 ghost use Rattle.frame_reading.specs.Reading.{data_size};

@@ -1,5 +1,6 @@
 // A participant's block: its frame. On the parts of a state that it depends on, so that no list is passed by value.
 #![tactic(auto)]
+
 mod fields;
 mod turn;
 

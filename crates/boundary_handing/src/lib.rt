@@ -1,5 +1,6 @@
 // What a call hands back: its core in the numbers that C keeps, with its answer, or the numbers as they are.
 #![tactic(auto)]
+
 ghost use Rattle.std.specs.Prelude.{◌≡◌, ◌≤◌};
 ghost use Rattle.laws.specs.Usual.{length};
 ghost use Rattle.boundary_places.specs.Places.{core_in, kept};

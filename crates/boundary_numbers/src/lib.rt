@@ -1,5 +1,6 @@
 // The answers of a tick and of a hearing as numbers, for C.
 #![tactic(auto)]
+
 ghost use Rattle.std.specs.Prelude.{◌≡◌};
 ghost use Rattle.boundary_answers.specs.Numbers.{ticked_answer, heard_answer};
 

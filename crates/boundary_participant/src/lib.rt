@@ -1,5 +1,6 @@
 // The test of a frame that a participant hears, and its watch restarted, on its core alone.
 #![tactic(auto)]
+
 ghost use Rattle.std.specs.Prelude.{◌≡◌};
 ghost use Rattle.boundary_participant.specs.Quick.{is_accepted, restarted_core};
 

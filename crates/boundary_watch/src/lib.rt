@@ -1,5 +1,6 @@
 // A participant's watch, on its core: the time that it runs for, by two of the list's arrays, and a tick that does not end it.
 #![tactic(auto)]
+
 ghost use Rattle.std.specs.Prelude.{◌≡◌};
 ghost use Rattle.laws.specs.Usual.{List, ℕ};
 ghost use Rattle.boundary_core.specs.Crossing.{station_in};

@@ -1,5 +1,6 @@
 // When our trigger and our request are due, and what of our areas then.
 #![tactic(auto)]
+
 ghost use Rattle.std.specs.Prelude.{◌≡◌};
 ghost use Rattle.station.specs.Rules.Starting.{trigger_due, request_fallen, ours_due, own_due};
 

@@ -1,5 +1,6 @@
 // What a tick is answered.
 #![tactic(auto)]
+
 ghost use Rattle.std.specs.Prelude.{◌≡◌};
 ghost use Rattle.station.specs.Rules.Ticking.{tick_answer};
 

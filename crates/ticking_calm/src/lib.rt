@@ -1,5 +1,6 @@
 // Ticks that only count, many at once.
 #![tactic(auto)]
+
 ghost use Rattle.std.specs.Prelude.{◌≡◌};
 ghost use Rattle.laws.specs.Usual.{cond, eqb};
 ghost use Rattle.station.specs.Rules.Waits.{number_wait};

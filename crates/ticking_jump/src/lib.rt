@@ -1,5 +1,6 @@
 // Ticks jumped over at once, on the counts of a station alone.
 #![tactic(auto)]
+
 ghost use Rattle.std.specs.Prelude.{◌≡◌, ◌<◌};
 ghost use Rattle.station.specs.Rules.Waits.{watch_ticks};
 ghost use Rattle.ticking_jump.specs.Jump.{skipped, round_after, jump_in};
