@@ -1,5 +1,6 @@
 // A tick that only counts, on the core alone, of a participant or of a station that does not participate yet.
 #![tactic(auto)]
+
 ghost use Rattle.std.specs.Prelude.{◌≡◌};
 ghost use Rattle.boundary_calm.specs.Calm.{only_counts, counted_core};
 

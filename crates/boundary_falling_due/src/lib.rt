@@ -1,5 +1,6 @@
 // Our request falls due, with the list in place.
 #![tactic(auto)]
+
 ghost use Rattle.std.specs.Prelude.{◌≡◌};
 ghost use Rattle.boundary_falling_due.specs.Due.{owned_core};
 ghost use Rattle.boundary_lists.specs.Lists.{members_in};

@@ -1,5 +1,6 @@
 // A participant that holds the token, and its block sent, on its core alone.
 #![tactic(auto)]
+
 ghost use Rattle.std.specs.Prelude.{◌≡◌};
 ghost use Rattle.laws.specs.Usual.{true};
 ghost use Rattle.boundary_holder.specs.Held.{holds_block, sent_core};

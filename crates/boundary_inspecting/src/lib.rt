@@ -1,5 +1,6 @@
 // The calls that read the core in numbers and change nothing: how long ticks bring no news, and what the panel shows.
 #![tactic(auto)]
+
 ghost use Rattle.std.specs.Prelude.{◌≡◌};
 ghost use Rattle.laws.specs.Usual.{List, ℕ};
 ghost use Rattle.boundary_core.specs.Crossing.{station_in, figure_in};

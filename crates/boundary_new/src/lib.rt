@@ -1,5 +1,6 @@
 // A new station, on the core in numbers and the list in arrays, both changed in place.
 #![tactic(auto)]
+
 ghost use Rattle.std.specs.Prelude.{◌≡◌};
 ghost use Rattle.laws.specs.Usual.{replicate};
 ghost use Rattle.boundary_core.specs.Crossing.{core_of};

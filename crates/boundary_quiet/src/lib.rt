@@ -1,5 +1,6 @@
 // How many ticks are quiet, by the core and two of the list's arrays.
 #![tactic(auto)]
+
 ghost use Rattle.std.specs.Prelude.{◌≡◌};
 ghost use Rattle.laws.specs.Usual.{cond, List, ℕ};
 ghost use Rattle.boundary_core.specs.Crossing.{station_in};

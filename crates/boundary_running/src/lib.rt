@@ -1,5 +1,6 @@
 // Start and stop. A refused one leaves the list alone, any other empties it; what stood there is not looked at.
 #![tactic(auto)]
+
 ghost use Rattle.std.specs.Prelude.{◌≡◌};
 ghost use Rattle.boundary_core.specs.Crossing.{core_of, station_in};
 ghost use Rattle.boundary_answers.specs.Numbers.{switched_answer, refused_answer};

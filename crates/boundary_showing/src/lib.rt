@@ -1,5 +1,6 @@
 // A new station, and what a station's front panel shows.
 #![tactic(auto)]
+
 ghost use Rattle.std.specs.Prelude.{◌≡◌};
 ghost use Rattle.boundary_core.specs.Crossing.{core_of, figure_in};
 ghost use Rattle.boundary_figure.specs.Figures.{figure_numbers};

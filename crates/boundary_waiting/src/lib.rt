@@ -1,5 +1,6 @@
 // The ticks of a station that does not participate yet, on its core alone, where they only count.
 #![tactic(auto)]
+
 ghost use Rattle.std.specs.Prelude.{◌≡◌};
 ghost use Rattle.laws.specs.Usual.{cond};
 ghost use Rattle.boundary_core.specs.Crossing.{is_in};

@@ -1,5 +1,6 @@
 // What an answer tells of the frame that was written, for C.
 #![tactic(auto)]
+
 ghost use Rattle.std.specs.Prelude.{◌≡◌};
 ghost use Rattle.frame.specs.Octets.{octet_at};
 ghost use Rattle.boundary_told.specs.Told.{route_in, written_told};

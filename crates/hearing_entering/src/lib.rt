@@ -1,5 +1,6 @@
 // What a frame does before we participate, and a request at a participant.
 #![tactic(auto)]
+
 ghost use Rattle.std.specs.Prelude.{◌≡◌};
 ghost use Rattle.laws.specs.Usual.{cond, ltb};
 ghost use Rattle.members.specs.Listing.{listing};

@@ -1,5 +1,6 @@
 // A cyclic frame that a participant hears.
 #![tactic(auto)]
+
 ghost use Rattle.std.specs.Prelude.{◌≡◌};
 ghost use Rattle.laws.specs.Usual.{true, length};
 ghost use Rattle.frame.specs.Codes.{is_cyclic};

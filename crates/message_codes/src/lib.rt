@@ -1,5 +1,6 @@
 // The message codes.
 #![tactic(auto)]
+
 ghost use Rattle.std.specs.Prelude.{◌≡◌};
 ghost use Rattle.message.specs.Codes.{is_message};
 

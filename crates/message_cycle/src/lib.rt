@@ -1,5 +1,6 @@
 // When the cycle lets a message go, and the number that a message gets when it first goes.
 #![tactic(auto)]
+
 ghost use Rattle.std.specs.Prelude.{◌≡◌};
 ghost use Rattle.message_rules.specs.Rules.Again.{number_after};
 ghost use Rattle.message_rules.specs.Rules.Cycle.{cycle_lets};

@@ -129,14 +129,13 @@ module _ (x : ℕ) where
   hear_does (on_hearing.turns_off out) = rw out (gone (none_listed x))
   hear_does {station} (on_hearing.gathers frame from parts) =
       rw (reads (on_hearing_told.whole_of from.accepts), from.participates) (gathers station frame frame.code from.cyclic)
-  hear_does (on_hearing.heeds frame facts (on_hearing.off e)) = rw (reads (on_hearing_told.whole_of facts), e) same
-  hear_does (on_hearing.heeds frame facts (on_hearing.begins e c)) = rw (reads (on_hearing_told.whole_of facts), e) (gone (none_listed x))
-  hear_does {station} (on_hearing.heeds frame facts (on_hearing.joins e c)) = rw (reads (on_hearing_told.whole_of facts), c) (joins_first station frame e)
-  hear_does {station} (on_hearing.heeds frame facts (on_hearing.passes e c)) = rw (reads (on_hearing_told.whole_of facts), c) (passes station frame e)
-  hear_does {station} (on_hearing.heeds frame facts (on_hearing.reads e c)) =
-      rw (reads (on_hearing_told.whole_of facts), e, c) (joins station frame (ltb station.rounds 3))
-  hear_does {station} (on_hearing.heeds frame facts (on_hearing.lists e c)) = rw (reads (on_hearing_told.whole_of facts), c) (requests station frame e)
-  hear_does {station} (on_hearing.heeds frame facts (on_hearing.ignores e)) = rw (reads (on_hearing_told.whole_of facts)) (ignored station frame e)
+  hear_does {station} {octets} {memory} {assembly} (on_hearing.heeds frame facts entered) =
+      let read = reads (on_hearing_told.whole_of facts) in
+      on_hearing_told.entering {station = station} {frame = frame}
+      (λ left answer. Hears station (read_of octets) (record { station = left; answer = answer; memory = memory; assembly = assembly }))
+      (λ e. rw (read, e) same) (λ e c. rw (read, e) (gone (none_listed x))) (λ e c. rw (read, c) (joins_first station frame e))
+      (λ e c. rw (read, c) (passes station frame e)) (λ e c. rw (read, e, c) (joins station frame (ltb station.rounds 3)))
+      (λ e c. rw (read, c) (requests station frame e)) (λ e. rw read (ignored station frame e)) entered
 
   -- every call
   pub does : (station : Station) (call : Call) → Does x station call (after station call)

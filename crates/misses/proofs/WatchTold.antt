@@ -90,14 +90,14 @@ hear_runs : {station : Station} {octets memory assembly : List ℕ} {result : He
 hear_runs {station} (on_hearing.refuses refusal) = still station
 hear_runs (on_hearing.turns_off before) = out refl
 hear_runs (on_hearing.gathers frame from parts) = goes (rw (from.participates, reads (on_hearing_told.whole_of from.accepts), from.cyclic))
-hear_runs (on_hearing.heeds frame facts (on_hearing.off e)) = out (rw e)
-hear_runs (on_hearing.heeds frame facts (on_hearing.begins e c)) = out refl
-hear_runs (on_hearing.heeds frame facts (on_hearing.joins e c)) = out refl
-hear_runs (on_hearing.heeds frame facts (on_hearing.passes e c)) = out (on_hearing_told.awaits_outside e)
-hear_runs (on_hearing.heeds frame facts (on_hearing.reads e c)) = out refl
-hear_runs {station} (on_hearing.heeds frame facts (on_hearing.lists e c)) =
-    rw (reads (on_hearing_told.whole_of facts), c) (record { run = (still station).run })
-hear_runs {station} (on_hearing.heeds frame facts (on_hearing.ignores e)) = rw (reads (on_hearing_told.whole_of facts), on_hearing_told.unnamed_plain e) (still station)
+hear_runs {station} {octets} (on_hearing.heeds frame facts entered) =
+    let read = reads (on_hearing_told.whole_of facts) in
+    on_hearing_told.entering {station = station} {frame = frame}
+    (λ left answer. Runs station
+    (not (participates station) || ((is_unrefused (heard_verdict answer) && reads_as (λ frame. is_cyclic frame.code) (read_of octets)) || false))
+    false left)
+    (λ e. out (rw e)) (λ e c. out refl) (λ e c. out refl) (λ e c. out (on_hearing_told.awaits_outside e)) (λ e c. out refl)
+    (λ e c. rw (read, c) (record { run = (still station).run })) (λ e. rw (read, on_hearing_told.unnamed_plain e) (still station)) entered
 
 ask_runs : {station : Station} {memory turn output : List ℕ} {result : Asking} → on_asking.AskCases station memory turn output result
     → Runs station (not (participates station) || is_unrefused (asked_verdict result.answer)) false result.station

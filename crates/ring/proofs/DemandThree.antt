@@ -61,7 +61,7 @@ module _ {numbers : List ℕ} {stations : Stations} (ring : Disturbed numbers st
     listed = ring.listed;
     view = ring.view;
     reached = λ n m. left_by_calls (ring.last n m);
-    restarted = λ n m. just_zero ring.token ring.is_read ring.is_token (ring.last n m) (ring.participates n m);
+    restarted = λ n m. just_zero ring.token ring.is_read ring.is_token_lem (ring.last n m) (ring.participates n m);
   }
 
   -- Of every disturbed ring and every list of events that can come, with `before` the part "up to the first time that they all name one

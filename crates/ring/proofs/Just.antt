@@ -52,16 +52,15 @@ module _ {station : Station} {octets memory assembly : List ℕ} (frame : Fields
 
   pub heard_zero : {result : Hearing} → on_hearing.HearCases station octets memory assembly result → heard_verdict result.answer ≡ unrefused →
       result.station.phase ≡ Participating → result.station.elapsed.0 ≡ 0
-  heard_zero (on_hearing.refuses refusal) v p = absurd (refused_not v)
-  heard_zero (on_hearing.turns_off out) v p = absurd (refused_not v)
-  heard_zero (on_hearing.gathers other from parts) v p = refl
-  heard_zero (on_hearing.heeds other facts (on_hearing.off e)) v p = absurd (two_phases (sym p ∙ e) refl refl)
-  heard_zero (on_hearing.heeds other facts (on_hearing.begins e c)) v p = absurd (two_phases (sym p) refl refl)
-  heard_zero (on_hearing.heeds other facts (on_hearing.joins e c)) v p = absurd (two_phases (sym p) refl refl)
-  heard_zero (on_hearing.heeds other facts (on_hearing.passes e c)) v p = absurd (two_phases (sym p) refl (on_hearing_told.awaits_outside e))
-  heard_zero (on_hearing.heeds other facts (on_hearing.reads e c)) v p = absurd (two_phases (sym p) refl refl)
-  heard_zero (on_hearing.heeds other facts (on_hearing.lists e c)) v p = absurd (false≢true (sym (ap is_cyclic c) ∙ cyclic facts))
-  heard_zero (on_hearing.heeds other facts (on_hearing.ignores e)) v p = absurd (false≢true (sym (on_hearing_told.unnamed_plain e) ∙ cyclic facts))
+  heard_zero (on_hearing.refuses refusal) v = absurd (refused_not v)
+  heard_zero (on_hearing.turns_off out) v = absurd (refused_not v)
+  heard_zero (on_hearing.gathers other from parts) v = λ p. refl
+  heard_zero (on_hearing.heeds other facts entered) v =
+      on_hearing_told.entering {station = station} {frame = other} (λ left answer. left.phase ≡ Participating → left.elapsed.0 ≡ 0)
+      (λ e p. absurd (two_phases (sym p ∙ e) refl refl)) (λ e c p. absurd (two_phases (sym p) refl refl)) (λ e c p. absurd (two_phases (sym p) refl refl))
+      (λ e c p. absurd (two_phases (sym p) refl (on_hearing_told.awaits_outside e))) (λ e c p. absurd (two_phases (sym p) refl refl))
+      (λ e c p. absurd (false≢true (sym (ap is_cyclic c) ∙ cyclic facts)))
+      (λ e p. absurd (false≢true (sym (on_hearing_told.unnamed_plain e) ∙ cyclic facts))) entered
 
 pub just_zero : {octets : List ℕ} {station : Station} (frame : Fields) → read_of octets ≡ Frame frame → is_token frame.code ≡ true → LastCall octets station →
     station.phase ≡ Participating → station.elapsed.0 ≡ 0

@@ -83,17 +83,18 @@ module _ {numbers : List ℕ} {number : ℕ} {station : Station} (in_ring : InRi
       let is = reads (on_hearing_told.whole_of facts.accepts) in
       let alike : frame ≡ other = cc in
       absurd (false≢true (sym plain ∙ ap (λ (f : Fields). is_cyclic f.code) alike ∙ facts.cyclic))
-  frame_kept frame read plain from (on_hearing.heeds other facts (on_hearing.off e)) = unchanged
-  frame_kept frame read plain from (on_hearing.heeds other facts (on_hearing.begins e c)) = absurd (false≢true (sym (ap is_participating e) ∙ inside))
-  frame_kept frame read plain from (on_hearing.heeds other facts (on_hearing.joins e c)) = absurd (false≢true (sym (on_hearing_told.awaits_outside e) ∙ inside))
-  frame_kept frame read plain from (on_hearing.heeds other facts (on_hearing.passes e c)) = unchanged
-  frame_kept frame read plain from (on_hearing.heeds other facts (on_hearing.reads e c)) = absurd (false≢true (sym (ap is_participating e) ∙ inside))
-  frame_kept frame read plain from (on_hearing.heeds other facts (on_hearing.lists e c)) =
-      let is = reads (on_hearing_told.whole_of facts) in
-      let alike : other ≡ frame = cc in
-      let among = from (ap (λ (f : Fields). f.code) (sym alike) ∙ c) in
-      request_kept other (rw alike among.0) (rw alike among.1) (λ d. eqb-false _ _ (on_hearing_told.other_of facts (on_hearing_told.lists_on e)) (d ∙ sym in_ring.own))
-  frame_kept frame read plain from (on_hearing.heeds other facts (on_hearing.ignores e)) = unchanged
+  frame_kept frame read plain from (on_hearing.heeds other facts entered) =
+      on_hearing_told.entering {station = station} {frame = other} (λ left answer. Kept numbers number station left) (λ e. unchanged)
+      (λ e c. absurd (false≢true (sym (ap is_participating e) ∙ inside))) (λ e c. absurd (false≢true (sym (on_hearing_told.awaits_outside e) ∙ inside)))
+      (λ e c. unchanged) (λ e c. absurd (false≢true (sym (ap is_participating e) ∙ inside)))
+      (λ e c. requested_kept e c) (λ e. unchanged) entered
+    where
+      requested_kept : on_hearing.Lists station.phase → other.code ≡ Request → Kept numbers number station (requested station other)
+      requested_kept e c =
+          let is = reads (on_hearing_told.whole_of facts) in
+          let alike : other ≡ frame = cc in
+          let among = from (ap (λ (f : Fields). f.code) (sym alike) ∙ c) in
+          request_kept other (rw alike among.0) (rw alike among.1) (λ d. eqb-false _ _ (on_hearing_told.other_of facts (on_hearing_told.lists_on e)) (d ∙ sym in_ring.own))
 
   pub stray_kept : {call : Call} → Stray numbers station call → Kept numbers number station (after station call)
   stray_kept (refused {call} refusal e) = refused_kept call refusal e

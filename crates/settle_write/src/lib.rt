@@ -3,7 +3,9 @@
 
 ghost use Rattle.std.specs.Prelude.{◌≡◌};
 ghost use Rattle.laws.specs.Usual.{not};
-ghost use Rattle.settle_rest.specs.Rest.{is_over};
+ghost use Rattle.std.specs.Prelude.{OnOk};
+ghost use Rattle.std.specs.Io.KnownBytes.{Appends};
+ghost use Rattle.settle_rest.specs.Rest.{rest_of, is_over};
 
 use settle_rest::Printing;
 use std::io::{self, Write};
@@ -16,7 +18,9 @@ fn has_more(printing: Printing) -> bool
 }
 
 // Fills a buffer and writes its front until nothing is left to print, or what is written is not taken.
-pub fn write_rest<W: Write>(printing: Printing, output: &mut W) -> io::Result<()> {
+pub fn write_rest<W: Write>(printing: Printing, output: &mut W) -> io::Result<()>
+    ensures { OnOk result (Appends (W.contents output.old) (W.contents output.new) (rest_of printing)) }
+{
     let mut buffer = [0u8; 65536];
     let mut now = printing;
     while has_more(now) {

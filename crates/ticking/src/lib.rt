@@ -1,5 +1,6 @@
 // A tick.
 #![tactic(auto)]
+
 ghost use Rattle.std.specs.Prelude.{◌≡◌, ◌&&◌};
 ghost use Rattle.laws.specs.Usual.{cond};
 ghost use Rattle.members.specs.Members.{numbers_of, is_listed, strikes};

@@ -1,5 +1,6 @@
 // The time that a station's watch runs for.
 #![tactic(auto)]
+
 ghost use Rattle.std.specs.Prelude.{◌≡◌};
 ghost use Rattle.station.specs.Rules.Ticking.{watch_time};
 
