@@ -1,5 +1,6 @@
 // Whether a frame of ours is due, told by the core alone, and why an asking is refused.
 #![tactic(auto)]
+
 ghost use Rattle.std.specs.Prelude.{◌≡◌};
 ghost use Rattle.boundary_due.specs.Due.{due_core, ask_refusal};
 

@@ -1,5 +1,6 @@
 // An accepted cyclic frame heard by a participant, on its core alone.
 #![tactic(auto)]
+
 ghost use Rattle.std.specs.Prelude.{◌≡◌};
 ghost use Rattle.laws.specs.Usual.{true, length};
 ghost use Rattle.frame.specs.Codes.{is_cyclic};

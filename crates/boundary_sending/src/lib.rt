@@ -1,5 +1,6 @@
 // A holder's block, sent with the list in place.
 #![tactic(auto)]
+
 ghost use Rattle.std.specs.Prelude.{◌≡◌};
 ghost use Rattle.laws.specs.Usual.{true};
 ghost use Rattle.boundary_core.specs.Crossing.{core_of, station_in};

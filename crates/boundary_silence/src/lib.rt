@@ -1,5 +1,6 @@
 // A tick that ends a participant's watch, with the list in place: the station in view gets a miss, or is struck.
 #![tactic(auto)]
+
 ghost use Rattle.std.specs.Prelude.{◌≡◌};
 ghost use Rattle.laws.specs.Usual.{false};
 ghost use Rattle.boundary_answers.specs.Numbers.{ticked_answer};

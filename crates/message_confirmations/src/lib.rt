@@ -1,5 +1,6 @@
 // Reading the confirmation in a cyclic frame.
 #![tactic(auto)]
+
 mod position;
 
 ghost use Rattle.std.specs.Prelude.{◌≡◌, ◌≤◌};
