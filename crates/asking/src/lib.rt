@@ -1,5 +1,6 @@
 // Asking for a frame.
 #![tactic(auto)]
+
 mod due;
 mod sent;
 

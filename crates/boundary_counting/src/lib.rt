@@ -1,5 +1,6 @@
 // A tick: on the core alone where it only counts, with the list in place where it ends a watch or a wait.
 #![tactic(auto)]
+
 ghost use Rattle.std.specs.Prelude.{◌≡◌};
 ghost use Rattle.boundary_core.specs.Crossing.{core_of, station_in};
 ghost use Rattle.boundary_answers.specs.Numbers.{ticked_answer};

@@ -1,5 +1,6 @@
 // A frame that is not refused, and that no participant takes as a cyclic one: most leave the list alone, and some list one station in place.
 #![tactic(auto)]
+
 ghost use Rattle.std.specs.Prelude.{◌≡◌};
 ghost use Rattle.laws.specs.Usual.{cond, ltb};
 ghost use Rattle.boundary_answers.specs.Numbers.{heard_answer};

@@ -1,5 +1,6 @@
 // A participant's cyclic frame that is accepted, heard with the list in place.
 #![tactic(auto)]
+
 ghost use Rattle.std.specs.Prelude.{◌≡◌};
 ghost use Rattle.laws.specs.Usual.{true, false, get_or};
 ghost use Rattle.boundary_core.specs.Crossing.{core_of, station_in};

@@ -1,5 +1,6 @@
 // A tick that ends a wait in ring startup, with the list in place.
 #![tactic(auto)]
+
 ghost use Rattle.std.specs.Prelude.{◌≡◌};
 ghost use Rattle.laws.specs.Usual.{false};
 ghost use Rattle.boundary_answers.specs.Numbers.{ticked_answer};

@@ -1,5 +1,6 @@
 // Hearing a frame.
 #![tactic(auto)]
+
 ghost use Rattle.std.specs.Prelude.{◌≡◌};
 ghost use Rattle.laws.specs.Usual.{true, length};
 ghost use Rattle.frame_reading.specs.Reading.{read_body_of};

@@ -1,10 +1,9 @@
 // Hands what `settle` prints to a writer, part by part.
 #![tactic(auto)]
 
-ghost use Rattle.std.specs.Prelude.{◌≡◌};
-ghost use Rattle.laws.specs.Usual.{not};
-ghost use Rattle.std.specs.Prelude.{OnOk};
+ghost use Rattle.std.specs.Prelude.{◌≡◌, OnOk};
 ghost use Rattle.std.specs.Io.KnownBytes.{Appends};
+ghost use Rattle.laws.specs.Usual.{not};
 ghost use Rattle.settle_rest.specs.Rest.{rest_of, is_over};
 
 use settle_rest::Printing;
@@ -17,7 +16,7 @@ fn has_more(printing: Printing) -> bool
     !settle_rest::is_over(stage)
 }
 
-// Fills a buffer and writes its front until nothing is left to print, or what is written is not taken.
+// Fills a buffer and writes its front until nothing is left to print, or until it is not taken.
 pub fn write_rest<W: Write>(printing: Printing, output: &mut W) -> io::Result<()>
     ensures { OnOk result (Appends (W.contents output.old) (W.contents output.new) (rest_of printing)) }
 {

@@ -1,5 +1,6 @@
 // Many ticks in one call.
 #![tactic(auto)]
+
 ghost use Rattle.std.specs.Prelude.{◌≡◌, ◌-◌, ◌≤◌};
 ghost use Rattle.ticking_quiet.specs.Many.{after_ticks, ticks_of};
 ghost use Rattle.ticking_jump.specs.Jump.{is_alone};
