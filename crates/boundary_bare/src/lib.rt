@@ -1,5 +1,6 @@
 // Our frames without data, with the list in its arrays: our request leaves it alone, and our trigger begins ring startup with an empty list.
 #![tactic(auto)]
+
 ghost use Rattle.std.specs.Prelude.{◌≡◌, ◌≤◌};
 ghost use Rattle.laws.specs.Usual.{[], length};
 ghost use Rattle.boundary_answers.specs.Numbers.{frame_answer};

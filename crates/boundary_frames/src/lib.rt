@@ -1,6 +1,7 @@
 // A frame that was read: its effect on the core in numbers and on the list in arrays. The state that a function is given is what the numbers
 // hold.
 #![tactic(auto)]
+
 ghost use Rattle.std.specs.Prelude.{◌≡◌};
 ghost use Rattle.laws.specs.Usual.{true, false, get_or};
 ghost use Rattle.boundary_answers.specs.Numbers.{heard_answer};

@@ -1,5 +1,6 @@
 // Hearing, on the core in numbers and the list in arrays. A refused frame touches neither, but for number 6 before we participate.
 #![tactic(auto)]
+
 ghost use Rattle.std.specs.Prelude.{◌≡◌, ◌&&◌};
 ghost use Rattle.laws.specs.Usual.{true, false, not};
 ghost use Rattle.boundary_answers.specs.Numbers.{heard_answer};

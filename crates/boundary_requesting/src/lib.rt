@@ -1,5 +1,6 @@
 // Our request sent in ring startup or in joining, on the core alone.
 #![tactic(auto)]
+
 ghost use Rattle.std.specs.Prelude.{◌≡◌, ◌≤◌};
 ghost use Rattle.laws.specs.Usual.{[], length};
 ghost use Rattle.boundary_answers.specs.Numbers.{frame_answer};

@@ -1,5 +1,6 @@
 // Whether a message may go, and how the outgoing side begins.
 #![tactic(auto)]
+
 ghost use Rattle.std.specs.Prelude.{◌≡◌};
 ghost use Rattle.laws.specs.Usual.{false, max};
 ghost use Rattle.message_going.specs.Going.{may_go};

@@ -1,5 +1,6 @@
 // Judging a message that came for us, its confirmation, and which message a confirmation speaks of.
 #![tactic(auto)]
+
 ghost use Rattle.std.specs.Prelude.{◌≡◌};
 ghost use Rattle.laws.specs.Usual.{cond};
 ghost use Rattle.message.specs.Codes.{to_all};

@@ -1,5 +1,6 @@
 // What becomes of the slot of a message by a tick, by a taking, by a status that comes for it, and by a new message.
 #![tactic(auto)]
+
 ghost use Rattle.std.specs.Prelude.{◌≡◌, ◌+◌};
 ghost use Rattle.laws.specs.Usual.{min};
 ghost use Rattle.message.specs.declared.Mail.TheVariants.{Unconfirmed};

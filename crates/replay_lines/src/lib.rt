@@ -1,5 +1,6 @@
 // The input of the program `replay`, taken line by line: what the octets of a part do to a station and its buffers, and what is answered.
 #![tactic(auto)]
+
 ghost use Rattle.std.specs.Prelude.{◌≡◌, ◌<◌};
 ghost use Rattle.laws.specs.Usual.{length};
 ghost use Rattle.copying.specs.Pasted.{pasted};

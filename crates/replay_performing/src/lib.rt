@@ -1,5 +1,6 @@
 // What a command does to a station and its buffers, and the line that is answered, which is written in front of a lent answer.
 #![tactic(auto)]
+
 ghost use Rattle.std.specs.Prelude.{◌≡◌};
 ghost use Rattle.laws.specs.Usual.{length, take, drop};
 ghost use Rattle.text_hexadecimal.specs.Octets.{octets_of};
