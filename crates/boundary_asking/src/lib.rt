@@ -1,6 +1,7 @@
 // Asking, on the core in numbers and the list in arrays. A refused asking touches neither. The state that the functions below the call are
 // given is what the numbers hold.
 #![tactic(auto)]
+
 ghost use Rattle.std.specs.Prelude.{◌≡◌, ◌≤◌};
 ghost use Rattle.laws.specs.Usual.{true, [], length};
 ghost use Rattle.boundary_bare.specs.Bare.{bare_fields, after_bare};

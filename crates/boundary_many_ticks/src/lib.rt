@@ -1,5 +1,6 @@
 // Many ticks in one call: on the core alone where they only count, else jumped over or made with the list in place.
 #![tactic(auto)]
+
 ghost use Rattle.std.specs.Prelude.{◌≡◌, ◌-◌, ◌≤◌};
 ghost use Rattle.laws.specs.Usual.{List, ℕ};
 ghost use Rattle.boundary_answers.specs.Numbers.{ticked_answer};

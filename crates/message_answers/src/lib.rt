@@ -1,5 +1,6 @@
 // The answers about messages as numbers, for C.
 #![tactic(auto)]
+
 ghost use Rattle.std.specs.Prelude.{◌≡◌};
 ghost use Rattle.laws.specs.Usual.{List, ℕ};
 ghost use Rattle.message.specs.declared.Received.TheVariants.{Message as HandedOver};

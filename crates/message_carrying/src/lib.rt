@@ -1,5 +1,6 @@
 // Putting a confirmation into a cyclic frame of ours.
 #![tactic(auto)]
+
 ghost use Rattle.std.specs.Prelude.{◌≡◌, ◌++◌, ◌+◌, ◌≤◌};
 ghost use Rattle.laws.specs.Usual.{length, take, drop};
 ghost use Rattle.message_frames.specs.Confirmations.{confirmation_octets, carrying};

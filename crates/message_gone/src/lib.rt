@@ -1,6 +1,7 @@
 // What becomes of the outgoing side by a message that goes, and the frame that it goes in. None of it depends on what is owed and what is known of the
 // sources.
 #![tactic(auto)]
+
 ghost use Rattle.std.specs.Prelude.{◌≡◌, ◌+◌};
 ghost use Rattle.laws.specs.Usual.{cond, List, [], min};
 ghost use Rattle.message.specs.Codes.{to_all};

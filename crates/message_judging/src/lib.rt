@@ -3,7 +3,7 @@
 
 ghost use Rattle.std.specs.Prelude.{◌≡◌};
 ghost use Rattle.laws.specs.Usual.{cond};
-ghost use Rattle.message.specs.Codes.{to_all};
+ghost use Rattle.message.specs.Codes.{to_all as is_to_all};
 ghost use Rattle.message.specs.Words.{status_of, mail_number};
 ghost use Rattle.message_judging.specs.Parts.{speaks_by};
 ghost use Rattle.message_rules.specs.Rules.Confirming.{same_confirmation};
@@ -13,7 +13,7 @@ use message::{Confirmation, Judged, Letter, Mail, Slot};
 
 // The number that a message is held against.
 fn last_of(one_to_one: u32, to_all: u32, letter: Letter) -> u32
-    ensures { result ≡ cond (to_all letter.message.destination) to_all one_to_one }
+    ensures { result ≡ cond (is_to_all letter.message.destination) to_all one_to_one }
 {
     let message = letter.message;
     if message_tests::to_all(message.destination) {

@@ -1,5 +1,6 @@
 // Reading a message frame: the fields that are looked at, and whether its data stand where they may.
 #![tactic(auto)]
+
 mod position;
 
 ghost use Rattle.std.specs.Prelude.{◌≡◌, ◌≤◌};

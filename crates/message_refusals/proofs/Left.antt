@@ -72,12 +72,12 @@ switch_left messages begun refusal (refuses other) e = refl
 switch_left messages begun refusal (does reason) e = absurd (one_verdict e)
 
 -- handing in a message
-post_left : {station : Station} {messages : Messages} {result : Posting} (refusal : Refusal) {message : _} {octets mail : List ℕ}
-    → outcomes.PostCases station messages message octets mail result → posted_verdict result.answer ≡ base.refused_by refusal
-    → (result.messages ≡ messages) × (result.mail ≡ mail)
-post_left refusal (outcomes.refuses other) e = (refl, refl)
-post_left refusal (outcomes.off out) e = absurd (one_verdict e)
-post_left refusal (outcomes.waits right sendable free on) e = absurd (one_verdict e)
+module _ {station : Station} {messages : Messages} {message : _} {octets mail : List ℕ} where
+  post_left : {result : Posting} (refusal : Refusal) → outcomes.PostCases station messages message octets mail result
+      → posted_verdict result.answer ≡ base.refused_by refusal → (result.messages ≡ messages) × (result.mail ≡ mail)
+  post_left refusal (outcomes.refuses other) e = (refl, refl)
+  post_left refusal (outcomes.off out) e = absurd (one_verdict e)
+  post_left refusal (outcomes.waits right sendable free on) e = absurd (one_verdict e)
 
 -- hearing a message
 letter_left : (both : Both) {given : ℕ} {letter : Letter} {result : letters.Hearing} (refusal : Refusal)

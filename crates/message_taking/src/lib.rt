@@ -1,5 +1,6 @@
 // A taking, told by the core in numbers before and after a call.
 #![tactic(auto)]
+
 ghost use Rattle.std.specs.Prelude.{◌≡◌};
 ghost use Rattle.boundary_core.specs.Crossing.{station_of};
 ghost use Rattle.boundary_places.specs.Places.{core_in};
