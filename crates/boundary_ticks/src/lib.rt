@@ -1,5 +1,6 @@
 // One tick and many, on the core in numbers and the list in arrays, both changed in place.
 #![tactic(auto)]
+
 ghost use Rattle.std.specs.Prelude.{◌≡◌};
 ghost use Rattle.boundary_answers.specs.Numbers.{ticked_answer};
 ghost use Rattle.boundary_core.specs.Crossing.{core_of, station_in};

@@ -1,5 +1,6 @@
 // The outgoing side taken out of the numbers that C keeps, and put into them in place.
 #![tactic(auto)]
+
 ghost use Rattle.std.specs.Prelude.{◌≡◌};
 ghost use Rattle.laws.specs.Usual.{length};
 ghost use Rattle.message_places.specs.Places.{mail_at, mail_in, message_in, slot_in, outgoing_in, with_mail, kept_outgoing};

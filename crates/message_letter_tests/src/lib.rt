@@ -1,5 +1,6 @@
 // Tests of a message that was heard, on the core alone: the refusals, and whether it is for us.
 #![tactic(auto)]
+
 ghost use Rattle.std.specs.Prelude.{◌≡◌};
 ghost use Rattle.boundary_answers.specs.Numbers.{heard_answer};
 ghost use Rattle.boundary_core.specs.Crossing.{phase_of};

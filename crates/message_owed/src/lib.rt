@@ -1,5 +1,6 @@
 // The confirmations owed, in the numbers that C keeps: how many, then three numbers for each, the oldest first.
 #![tactic(auto)]
+
 ghost use Rattle.std.specs.Prelude.{◌≡◌, ◌∷◌, ◌++◌, ◌+◌, ◌<◌, ◌≤◌};
 ghost use Rattle.laws.specs.Usual.{false, List, [], length, take, drop};
 ghost use Rattle.message_owed.specs.Owing.{owing_where_free, is_owing, confirmation_at};

@@ -1,6 +1,7 @@
 // What becomes of the outgoing side of messages by a tick, by a taking, by a confirmation and by a message that is handed in. None of it depends on what is
 // owed and what is known of the sources.
 #![tactic(auto)]
+
 ghost use Rattle.std.specs.Prelude.{◌≡◌};
 ghost use Rattle.laws.specs.Usual.{true, List};
 ghost use Rattle.message.specs.declared.Confirmation.{Confirmation};

@@ -1,5 +1,6 @@
 // What is known of the sources, in three arrays of numbers with a place for each octet.
 #![tactic(auto)]
+
 ghost use Rattle.std.specs.Prelude.{◌≡◌};
 ghost use Rattle.laws.specs.Usual.{replicate};
 ghost use Rattle.message.specs.declared.Judged.TheVariants.{OtherVersion, New};

@@ -1,5 +1,6 @@
 // The outgoing side in numbers, by a tick, by a taking and by a confirmation, in place. None of it depends on what is owed and known.
 #![tactic(auto)]
+
 ghost use Rattle.std.specs.Prelude.{◌≡◌};
 ghost use Rattle.laws.specs.Usual.{List};
 ghost use Rattle.message.specs.declared.Confirmation.{Confirmation};

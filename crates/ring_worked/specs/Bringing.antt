@@ -148,6 +148,7 @@ pub each : (P : ℕ → Type 0) → P 1 → P 2 → P 3 → (number : ℕ) → n
 each P a b c number (Memᴰ.head e) = subst P (sym e) a
 each P a b c number (Memᴰ.tail (Memᴰ.head e)) = subst P (sym e) b
 each P a b c number (Memᴰ.tail (Memᴰ.tail (Memᴰ.head e))) = subst P (sym e) c
+each P a b c number (Memᴰ.tail (Memᴰ.tail (Memᴰ.tail x12))) = elim x12 [ ]
 
 -- Station 2, which holds, passes the token to station 3: the octets that it writes.
 abbrev pub passed : List ℕ

@@ -1,6 +1,6 @@
 -- Every text has a first line feed, or none. Assumes nothing.
 use Rattle.std.specs.Prelude.{◌≡◌, ◌∷◌, ◌++◌}
-use Rattle.laws.specs.Usual.{[], List, ℕ}
+use Rattle.laws.specs.Usual.{List, ℕ}
 use Rattle.text.specs.Lines.{line_feed}
 use Rattle.text_scanning.specs.Scanning.{NoFeed}
 

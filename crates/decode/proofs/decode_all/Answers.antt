@@ -1,6 +1,6 @@
 -- `decode::decode_all` meets its contract.
-use Rattle.std.specs.Prelude.{◌≡◌, ◌++◌}
-use Rattle.laws.specs.Usual.{refl, sym, ap, ◌∙◌, List, [], ℕ, arith, length, take}
+use Rattle.std.specs.Prelude.{◌++◌}
+use Rattle.laws.specs.Usual.{refl, sym, ap, ◌∙◌, [], ℕ, arith, length, take}
 use borrow.Author.Tests.{ltb-true}
 use Rattle.decode_line.specs.Gathering.{fresh}
 use Rattle.decode_line.specs.declared.Gathered.{Gathered}

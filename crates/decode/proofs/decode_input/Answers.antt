@@ -1,5 +1,5 @@
 -- `decode::decode_input` meets its contract.
-use Rattle.laws.specs.Usual.{ap, rules}
+use Rattle.laws.specs.Usual.{ap}
 use Rattle.decode.specs.Capture.{Carried}
 use Rattle.decode.proofs.decode_input.Goals as goal
 

@@ -1,5 +1,5 @@
 -- `decode::decode_next` meets its contract.
-use Rattle.laws.specs.Usual.{sym, ◌∙◌, replicate, rules}
+use Rattle.laws.specs.Usual.{sym, ◌∙◌, replicate}
 use Rattle.text_feeding.specs.Feeding.{between}
 use Rattle.text_feeding.proofs.Front.{front_within, front_read}
 use Rattle.text_feeding.proofs.Scan.{ended_onward, open_onward}

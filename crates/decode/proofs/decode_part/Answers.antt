@@ -1,6 +1,6 @@
 -- `decode::decode_part` meets its contract.
-use Rattle.std.specs.Prelude.{◌≡◌, ◌-◌, ◌≤◌}
-use Rattle.laws.specs.Usual.{refl, sym, ap, ◌∙◌, false, ℕ, arith, length, take, drop}
+use Rattle.std.specs.Prelude.{◌-◌, ◌≤◌}
+use Rattle.laws.specs.Usual.{refl, sym, ap, ◌∙◌, ℕ, arith, length, take, drop}
 use mathlib.Core.Bool.{true≢false}
 use borrow.Author.Tests.{ltb-true, ltb-false}
 use Rattle.text_feeding.specs.Feeding.{fed_all, Onward}

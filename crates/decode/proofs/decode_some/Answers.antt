@@ -1,5 +1,5 @@
 -- `decode::decode_some` meets its contract.
-use Rattle.laws.specs.Usual.{ap, ◌∙◌, length, rules}
+use Rattle.laws.specs.Usual.{ap, ◌∙◌, length}
 use Rattle.text_feeding.specs.Feeding.{fed_all}
 use Rattle.text_feeding.proofs.Scan.{read_arrived, read_taken}
 use Rattle.decode.specs.Capture.{carried, decode}

@@ -1,5 +1,5 @@
 -- `decode::main` meets its contract.
-use Rattle.laws.specs.Usual.{replicate, rules}
+use Rattle.laws.specs.Usual.{replicate}
 use Rattle.text_feeding.proofs.Front.{front_within, front_read}
 use Rattle.decode.specs.Capture.{answer_to_rest}
 use Rattle.decode.proofs.main.Goals as goal

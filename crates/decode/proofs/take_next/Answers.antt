@@ -1,6 +1,6 @@
 -- `decode::take_next` meets its contract.
 use Rattle.std.specs.Prelude.{◌≡◌}
-use Rattle.laws.specs.Usual.{sym, ap, ◌∙◌, List, ℕ, length, drop, rules}
+use Rattle.laws.specs.Usual.{sym, ap, ◌∙◌, List, ℕ, length, drop}
 use Rattle.decode_answers.specs.Answers.{text_of}
 use Rattle.copying.specs.Laws.{paste_nothing}
 use Rattle.copying.specs.Pasted.{pasted}
