@@ -11,14 +11,17 @@ fn run_case(rt: &HostRuntime, path: &str) -> io::Result<()> {
     output.write_all(b"\n")?;
     let mut file = fs::open(rt, path)?;
     let mut input = [0u8; 4096];
-    let count = text_feeding::read_full(&mut file, &mut input)?;
+    let (count, read) = text_feeding::read_full(&mut file, &mut input);
     let printing = settle_rest::begin(&input[..count]);
-    settle_write::write_rest(settle_last::shorten(printing, 6), &mut output)
+    settle_write::write_rest(settle_last::shorten(printing, 6), &mut output)?;
+    read
 }
 
+// A case that fails is told at the end, and the others are run.
 fn main(rt: HostRuntime) -> io::Result<()> {
+    let mut ended = Ok(());
     for path in env::args(&rt)?.skip(1) {
-        run_case(&rt, &path)?;
+        ended = run_case(&rt, &path).and(ended);
     }
-    Ok(())
+    ended
 }

@@ -2,8 +2,9 @@
 // and the writing.
 #![tactic(auto)]
 
-ghost use Rattle.std.specs.Prelude.{◌≡◌, IsNone, IsSome, IsOk, MatchOption, Err, false};
+ghost use Rattle.std.specs.Prelude.{◌≡◌, ◌<◌, length, take, IsNone, IsSome, IsOk, OnOk, MatchOption, Err, false};
 ghost use Rattle.std.specs.Io.{ReadsAtMost};
+ghost use Rattle.std.specs.Io.KnownBytes.{ReadConsumes, Consumes, IsAtEnd};
 ghost use Rattle.text_feeding.specs.Counts.{Counts};
 
 use std::io::{self, ErrorKind, Read, Stdin, Stdout, Write};
@@ -18,7 +19,8 @@ pub struct Streams {
 
 // Reads once, and again where a signal broke in.
 fn read_once<R: Read>(reader: &mut R, part: &mut [u8]) -> io::Result<usize>
-    ensures { ReadsAtMost result part.new }
+    ensures bound { ReadsAtMost result part.new }
+    ensures bytes { ReadConsumes (R.remaining reader.old) (R.remaining reader.new) result part.new }
 {
     for _ in 0..u64::MAX {
         match reader.read(part) {
@@ -30,19 +32,21 @@ fn read_once<R: Read>(reader: &mut R, part: &mut [u8]) -> io::Result<usize>
     Err(io::Error::from(ErrorKind::Interrupted))
 }
 
-// Reads until the buffer is full or the input ends: how many octets came to its front.
-pub fn read_full<R: Read>(reader: &mut R, buffer: &mut [u8]) -> io::Result<usize>
-    ensures { ReadsAtMost result buffer.new }
+// Reads until the buffer is full, the input ends or it cannot be read: how many octets came to its front, and how the reading ended.
+pub fn read_full<R: Read>(reader: &mut R, buffer: &mut [u8]) -> (usize, io::Result<()>)
+    ensures count { Counts result.0 buffer.new }
+    ensures octets { Consumes (R.remaining reader.old) (R.remaining reader.new) (take result.0 buffer.new) }
+    ensures whole { OnOk result.1 (result.0 < length buffer.new → IsAtEnd (R.remaining reader.new)) }
 {
     let mut done = 0;
     while done < buffer.len() {
-        let got = read_once(reader, &mut buffer[done..])?;
-        if got == 0 {
-            break;
+        match read_once(reader, &mut buffer[done..]) {
+            Ok(0) => return (done, Ok(())),
+            Ok(got) => done += got,
+            Err(error) => return (done, Err(error)),
         }
-        done += got;
     }
-    Ok(done)
+    (done, Ok(()))
 }
 
 impl Streams {
