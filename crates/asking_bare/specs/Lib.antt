@@ -1,2 +1,0 @@
--- Frames without data.
-pub mod Bare

@@ -1,2 +1,0 @@
--- What is known of a place inside our turn.
-pub mod Placed

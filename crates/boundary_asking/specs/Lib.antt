@@ -1,2 +1,0 @@
--- A law of what an asking leaves.
-pub mod Carried

@@ -1,2 +1,0 @@
--- Our frames without data.
-pub mod Bare

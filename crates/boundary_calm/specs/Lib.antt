@@ -1,2 +1,0 @@
--- A tick that only counts.
-pub mod Calm

@@ -1,2 +1,0 @@
--- An asking that is refused, on the core alone.
-pub mod Due

@@ -1,2 +1,0 @@
--- A tick that ends a wait before we participate.
-pub mod Ending

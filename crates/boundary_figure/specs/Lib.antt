@@ -1,2 +1,0 @@
--- What the panel shows, as numbers.
-pub mod Figures

@@ -1,2 +1,0 @@
--- Laws for the search by the flags.
-pub mod Search

@@ -1,2 +1,0 @@
--- Laws of what a hearing leaves.
-pub mod Carried

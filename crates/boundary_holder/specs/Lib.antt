@@ -1,2 +1,0 @@
--- A participant that holds, on its core, and that its asking is that of its station.
-pub mod Held

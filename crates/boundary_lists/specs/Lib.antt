@@ -1,4 +1,0 @@
--- The definitions of this crate.
-pub mod Lists
--- Theorems.
-pub mod Laws

@@ -1,2 +1,0 @@
--- Looking for an overlap from one listed number to the next.
-pub mod Skipping

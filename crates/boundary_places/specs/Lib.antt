@@ -1,4 +1,0 @@
--- Definitions.
-pub mod Places
--- Theorems.
-pub mod Laws

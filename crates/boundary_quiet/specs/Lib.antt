@@ -1,2 +1,0 @@
--- The answer in numbers.
-pub mod Numbers

@@ -1,2 +1,0 @@
--- Our request sent, on the core alone.
-pub mod Requesting

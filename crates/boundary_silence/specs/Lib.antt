@@ -1,2 +1,0 @@
--- A tick that ends a participant's watch.
-pub mod Silence

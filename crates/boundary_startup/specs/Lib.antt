@@ -1,2 +1,0 @@
--- The end of ring startup.
-pub mod Started

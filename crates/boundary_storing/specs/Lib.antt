@@ -1,2 +1,0 @@
--- An entry stored in the arrays.
-pub mod Storing

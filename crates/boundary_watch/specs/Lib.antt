@@ -1,2 +1,0 @@
--- A participant's tick that does not end its watch.
-pub mod Watch

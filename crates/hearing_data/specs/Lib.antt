@@ -1,2 +1,0 @@
--- What is known of a frame that was read.
-pub mod Body

@@ -1,4 +1,0 @@
--- Definitions.
-pub mod Parts
--- Theorems.
-pub mod Laws

@@ -1,4 +1,0 @@
--- The search for the first listed number.
-pub mod Search
--- Theorems: next and the smallest by it.
-pub mod Found

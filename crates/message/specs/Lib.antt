@@ -1,4 +1,0 @@
--- The definitions of this crate.
-pub mod Codes
-pub mod Words
-pub mod Apart

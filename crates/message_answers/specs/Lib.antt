@@ -1,2 +1,0 @@
--- The answers about messages as numbers.
-pub mod Numbers

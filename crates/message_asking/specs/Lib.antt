@@ -1,5 +1,0 @@
--- Definitions.
-pub mod Asking
--- Theorems.
-pub mod Token
-pub mod Meets

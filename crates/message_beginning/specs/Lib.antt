@@ -1,2 +1,0 @@
--- The message part as it begins.
-pub mod Begun

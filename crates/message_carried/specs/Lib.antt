@@ -1,2 +1,0 @@
--- What is left when the oldest confirmation owed is put into a frame.
-pub mod Carried

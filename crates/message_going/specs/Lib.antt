@@ -1,2 +1,0 @@
--- When a message goes, by the panel and the outgoing side.
-pub mod Going

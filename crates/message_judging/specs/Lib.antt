@@ -1,2 +1,0 @@
--- Which message a confirmation speaks of, by the parts that it depends on.
-pub mod Parts

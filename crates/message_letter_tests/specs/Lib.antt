@@ -1,4 +1,0 @@
--- Definitions.
-pub mod Tests
--- Theorems.
-pub mod Laws

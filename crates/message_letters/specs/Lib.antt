@@ -1,2 +1,0 @@
--- A message told by the reading of its header.
-pub mod Told

@@ -1,4 +1,0 @@
--- Definitions.
-pub mod Heard
--- Theorems.
-pub mod Laws

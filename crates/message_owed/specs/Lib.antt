@@ -1,6 +1,0 @@
--- Definitions.
-pub mod Owing
--- Theorems.
-pub mod Cases
-pub mod Laws
-pub mod Steps

@@ -1,6 +1,0 @@
--- Definitions.
-pub mod Outgoing
-pub mod Owed
-pub mod Places
--- Theorems.
-pub mod Laws

@@ -1,4 +1,0 @@
--- Definitions.
-pub mod Receiving
--- Theorems.
-pub mod Laws

@@ -1,3 +1,0 @@
--- What is proved of the definitions, and laws that proofs cite.
-pub mod FirstApplies
-pub mod Left

@@ -1,3 +1,0 @@
--- The refusals of a station with messages.
-pub mod Applies
-pub mod FirstApplies

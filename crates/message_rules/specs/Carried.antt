@@ -1,3 +1,0 @@
--- A frame that carries a confirmation, heard.
-pub mod CarriedHeard
-pub mod Wrote

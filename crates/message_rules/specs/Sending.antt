@@ -1,3 +1,0 @@
--- What is proved of a message that is sent.
-pub mod Speaks
-pub mod Writable

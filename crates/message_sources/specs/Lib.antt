@@ -1,4 +1,0 @@
--- Definitions.
-pub mod Sources
--- Theorems.
-pub mod Laws

@@ -1,2 +1,0 @@
--- Start and stop of a station with messages, by what C lends.
-pub mod Switched

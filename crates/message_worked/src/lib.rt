@@ -1,2 +1,0 @@
-// Worked rings of stations with messages. There is no code here.
-#![tactic(auto)]

@@ -1,2 +1,0 @@
--- What is promised, in one file.
-pub mod Promises

@@ -1,4 +1,0 @@
--- The definitions of this crate.
-pub mod Outcome
--- What is proved of them.
-pub mod Room

@@ -1,2 +1,0 @@
-// Worked rings. There is no code here.
-#![tactic(auto)]

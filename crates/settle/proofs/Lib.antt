@@ -1,2 +1,0 @@
--- What is proved of the definitions, and laws that proofs cite.
-pub mod Whole

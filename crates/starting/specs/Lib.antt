@@ -1,2 +1,0 @@
--- What a start does, by its answer.
-pub mod Answers

@@ -1,3 +1,0 @@
--- What is proved, by the folders of specs/.
-pub mod Asked
-pub mod FrameAccepted

@@ -1,3 +1,0 @@
--- Frames asked for: what they are, and that others accept them.
-pub mod Asked
-pub mod FrameAccepted

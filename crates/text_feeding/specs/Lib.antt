@@ -1,4 +1,0 @@
--- The definitions of this crate.
-pub mod Feeding
-pub mod Counts
-pub mod Cut
