@@ -1,0 +1,2 @@
+-- Frames without data.
+pub mod Bare

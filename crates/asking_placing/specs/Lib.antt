@@ -1,0 +1,2 @@
+-- What is known of a place inside our turn.
+pub mod Placed

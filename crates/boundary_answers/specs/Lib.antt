@@ -1,0 +1,3 @@
+-- The answers as numbers, and that nothing is lost by it.
+pub mod Numbers
+pub mod Kept

@@ -1,0 +1,2 @@
+-- A law of what an asking leaves.
+pub mod Carried

@@ -1,0 +1,2 @@
+-- Our frames without data.
+pub mod Bare

@@ -1,0 +1,5 @@
+-- `boundary_beginning::fresh` meets its contract.
+use Rattle.boundary_beginning.proofs.fresh.Goals as goal
+
+pub returns : goal.returns
+returns c = rw (c.phase_number.ensures, c.blank-panel.ensures, c.nothing-gathering.ensures)

@@ -1,0 +1,2 @@
+-- A tick that only counts.
+pub mod Calm

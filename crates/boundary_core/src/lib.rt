@@ -1,0 +1,46 @@
+// The state as numbers, for C.
+#![tactic(auto)]
+
+mod phase;
+
+pub use boundary_answers::{Answer, Route};
+use panel::Panel;
+pub use phase::{phase_number, phase_of};
+use station::{Gathering, Settings};
+use units::Ticks;
+
+// The phases' numbers. No other is a phase's.
+pub const OFF: u8 = 0;
+
+pub const LISTENING: u8 = 1;
+
+pub const STARTUP: u8 = 2;
+
+pub const JOINING: u8 = 3;
+
+pub const PARTICIPATING: u8 = 4;
+
+// A station's state without its list, its phase as a number. It goes by value between the crates alone, where the compiler takes it apart;
+// C keeps it in numbers (`boundary_places`).
+#[repr(C)]
+#[derive(Clone, Copy)]
+pub struct Core {
+    pub phase: u8,
+    pub own: Settings,
+    pub view: u8,
+    pub block: u8,
+    pub elapsed: Ticks,
+    pub waited: Ticks,
+    pub rounds: u8,
+    pub sent: bool,
+    pub gathering: Gathering,
+    pub panel: Panel,
+}
+
+// A call's result: the state after it, and the answer.
+#[repr(C)]
+#[derive(Clone, Copy)]
+pub struct Outcome {
+    pub core: Core,
+    pub answer: Answer,
+}

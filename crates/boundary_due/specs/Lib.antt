@@ -1,0 +1,2 @@
+-- An asking that is refused, on the core alone.
+pub mod Due

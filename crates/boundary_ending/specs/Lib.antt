@@ -1,0 +1,2 @@
+-- A tick that ends a wait before we participate.
+pub mod Ending

@@ -1,0 +1,2 @@
+-- What the panel shows, as numbers.
+pub mod Figures

@@ -1,0 +1,2 @@
+-- Laws for the search by the flags.
+pub mod Search

@@ -1,0 +1,2 @@
+-- Laws of what a hearing leaves.
+pub mod Carried

@@ -1,0 +1,5 @@
+-- `boundary_holder::holds_block` meets its contract.
+use Rattle.boundary_holder.proofs.holds_block.Goals as goal
+
+pub returns : goal.returns
+returns c = rw c.is_placed.ensures

@@ -1,0 +1,4 @@
+-- The definitions of this crate.
+pub mod Lists
+-- Theorems.
+pub mod Laws

@@ -1,0 +1,33 @@
+-- `boundary_next::next_after` meets its contract.
+use Rattle.std.specs.Prelude.{◌+◌}
+use Rattle.laws.specs.Usual.{sym, ◌∙◌, rules}
+use borrow.Author.Tests.{lt-ltb, le-ltb}
+use Rattle.members.specs.Members.{smallest}
+use Rattle.members_searching.specs.Found.{next_found, smallest_found}
+use Rattle.boundary_lists.specs.Lists.{flagged}
+use Rattle.boundary_flags.specs.Search.{found_one, found_none}
+use Rattle.boundary_next.proofs.next_after.Goals as goal
+
+pub returns-then-number-ours : goal.returns-then-number-ours
+returns-then-number-ours c =
+    let a = c.args in
+    c.first_listed.ensures ∙ rw (next_found a.ours (flagged a.listed.now) a.number, lt-ltb _ _ c.if-number-ours.true)
+
+pub returns-then-larger-lt256 : goal.returns-then-larger-lt256
+returns-then-larger-lt256 c =
+    let a = c.args in
+    let larger = c.first_listed-larger.ensures in
+    let first = smallest a.ours (flagged a.listed.now) in
+    larger
+    ∙ sym (found_one a.listed.now (a.number + 1) first (rw (← larger) c.if-larger-lt256.true))
+    ∙ rw (next_found a.ours (flagged a.listed.now) a.number, le-ltb _ _ c.if-number-ours.false)
+
+pub returns : goal.returns
+returns c =
+    let a = c.args in
+    let larger = c.first_listed-larger.ensures in
+    let first = smallest a.ours (flagged a.listed.now) in
+    c.first_listed-2.ensures
+    ∙ sym (smallest_found a.ours (flagged a.listed.now))
+    ∙ sym (found_none a.listed.now (a.number + 1) first (search rules) (rw (← larger) c.if-larger-lt256.false))
+    ∙ rw (next_found a.ours (flagged a.listed.now) a.number, le-ltb _ _ c.if-number-ours.false)

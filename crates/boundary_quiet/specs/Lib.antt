@@ -1,0 +1,2 @@
+-- The answer in numbers.
+pub mod Numbers

@@ -1,0 +1,2 @@
+-- Our request sent, on the core alone.
+pub mod Requesting

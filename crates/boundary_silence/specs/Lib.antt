@@ -1,0 +1,2 @@
+-- A tick that ends a participant's watch.
+pub mod Silence

@@ -1,0 +1,2 @@
+-- The end of ring startup.
+pub mod Started

@@ -1,0 +1,2 @@
+-- An entry stored in the arrays.
+pub mod Storing

@@ -1,0 +1,7 @@
+-- `boundary_switching::stop` meets its contract.
+use Rattle.boundary_answers.specs.Numbers.{switched_answer}
+use Rattle.boundary_core.specs.Crossing.{station_in}
+use Rattle.boundary_core.specs.declared.Core.{Core}
+use Rattle.boundary_places.specs.Laws.{call_kept}
+use Rattle.station.specs.Rules.Starting.{Switching, stop_of}
+use Rattle.boundary_switching.proofs.stop.Goals as goal

@@ -1,0 +1,3 @@
+-- What an answer tells of the frame that was read or written.
+pub mod Told
+pub mod Routes

@@ -1,0 +1,2 @@
+-- A participant's tick that does not end its watch.
+pub mod Watch

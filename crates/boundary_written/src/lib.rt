@@ -1,0 +1,39 @@
+// What an answer tells of the frame that was written, for C.
+#![tactic(auto)]
+
+ghost use Rattle.std.specs.Prelude.{◌≡◌};
+ghost use Rattle.frame.specs.Octets.{octet_at};
+ghost use Rattle.boundary_told.specs.Told.{route_in, written_told};
+
+use boundary_answers::{Answer, FRAME, Route};
+use frame_reading::{DNA, SNA, TCD};
+
+fn octet_at(s: &[u8], at: usize) -> u8
+    ensures { result ≡ octet_at s.now at }
+{
+    if at < s.len() { s[at] } else { 0 }
+}
+
+fn route_in(s: &[u8]) -> Route
+    ensures { result ≡ route_in s.now }
+{
+    let high = octet_at(s, TCD);
+    let low = octet_at(s, TCD + 1);
+    Route {
+        code: high as u16 * 256 + low as u16,
+        source: octet_at(s, SNA),
+        destination: octet_at(s, DNA),
+    }
+}
+
+// The answer to an asking, whose frame stands at the front of the output.
+pub fn tell_written(answer: Answer, output: &[u8]) -> Answer
+    ensures { result ≡ written_told output.now answer }
+{
+    if answer.word == FRAME {
+        let frame = route_in(output);
+        Answer { frame, ..answer }
+    } else {
+        answer
+    }
+}

@@ -1,0 +1,3 @@
+-- The definition of this crate, and what is proved of it.
+pub mod Same
+pub mod Laws

@@ -1,0 +1,2 @@
+-- What is known of a frame that was read.
+pub mod Body

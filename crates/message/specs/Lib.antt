@@ -1,0 +1,4 @@
+-- The definitions of this crate.
+pub mod Codes
+pub mod Words
+pub mod Apart

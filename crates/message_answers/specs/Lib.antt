@@ -1,0 +1,2 @@
+-- The answers about messages as numbers.
+pub mod Numbers

@@ -1,0 +1,2 @@
+-- A message that goes, on the core and the outgoing side.
+pub mod Letter

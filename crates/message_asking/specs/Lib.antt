@@ -1,0 +1,5 @@
+-- Definitions.
+pub mod Asking
+-- Theorems.
+pub mod Token
+pub mod Meets

@@ -1,0 +1,2 @@
+-- The message part as it begins.
+pub mod Begun

@@ -1,0 +1,2 @@
+-- What is left when the oldest confirmation owed is put into a frame.
+pub mod Carried

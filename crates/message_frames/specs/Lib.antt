@@ -1,0 +1,6 @@
+-- The definitions of this crate.
+pub mod Places
+pub mod Frames
+pub mod Confirmations
+pub mod Carrying
+pub mod ReadBack

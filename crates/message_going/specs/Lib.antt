@@ -1,0 +1,2 @@
+-- When a message goes, by the panel and the outgoing side.
+pub mod Going

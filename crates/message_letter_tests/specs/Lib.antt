@@ -1,0 +1,4 @@
+-- Definitions.
+pub mod Tests
+-- Theorems.
+pub mod Laws

@@ -1,0 +1,2 @@
+-- A message told by the reading of its header.
+pub mod Told

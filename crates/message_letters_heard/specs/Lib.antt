@@ -1,0 +1,4 @@
+-- Definitions.
+pub mod Heard
+-- Theorems.
+pub mod Laws

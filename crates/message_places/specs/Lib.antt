@@ -1,0 +1,6 @@
+-- Definitions.
+pub mod Outgoing
+pub mod Owed
+pub mod Places
+-- Theorems.
+pub mod Laws

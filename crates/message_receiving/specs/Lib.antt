@@ -1,0 +1,4 @@
+-- Definitions.
+pub mod Receiving
+-- Theorems.
+pub mod Laws

@@ -1,0 +1,3 @@
+-- The refusals of a station with messages.
+pub mod Applies
+pub mod FirstApplies

@@ -1,0 +1,3 @@
+-- The ring of stations with messages, and demand 3.
+pub mod Events
+pub mod Demand

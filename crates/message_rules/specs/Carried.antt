@@ -1,0 +1,3 @@
+-- A frame that carries a confirmation, heard.
+pub mod CarriedHeard
+pub mod Wrote

@@ -1,0 +1,3 @@
+-- What is proved of a message that is sent.
+pub mod Speaks
+pub mod Writable

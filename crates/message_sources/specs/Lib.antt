@@ -1,0 +1,4 @@
+-- Definitions.
+pub mod Sources
+-- Theorems.
+pub mod Laws

@@ -1,0 +1,2 @@
+// Worked rings of stations with messages. There is no code here.
+#![tactic(auto)]

@@ -1,0 +1,5 @@
+-- `phases_participating::restart` meets its contract.
+use Rattle.phases_participating.proofs.restart.Goals as goal
+
+pub returns : goal.returns
+returns c = rw (c.taken_if-panel.ensures, c.takes.ensures, c.place_kept-block.ensures)

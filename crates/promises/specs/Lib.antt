@@ -1,0 +1,2 @@
+-- What is promised, in one file.
+pub mod Promises

@@ -1,0 +1,2 @@
+-- The definitions of this crate, and what is proved of them.
+pub mod Gathering

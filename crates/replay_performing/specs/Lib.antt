@@ -1,0 +1,5 @@
+-- What a command does, and what is proved of it.
+pub mod Replaying
+-- Theorems.
+pub mod Cut
+pub mod Lines

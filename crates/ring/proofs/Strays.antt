@@ -1,0 +1,131 @@
+-- What is proved of the definitions in specs/Strays.antt.
+use Rattle.std.specs.Prelude.{◌≡◌}
+use Rattle.laws.specs.Usual.{refl, sym, ap, subst, ◌∙◌, Bool, true, false, cond, false≢true, List, ℕ, eqb}
+use Rattle.std.proofs.Math.Decide.{ℕ_discrete}
+use Rattle.std.proofs.Common.{eq-eqb, ne_eqb}
+use Rattle.std.proofs.lemmas.Bool.{eqb-false}
+use Rattle.frame.specs.Codes.{is_cyclic}
+use Rattle.frame.specs.declared.Code.TheVariants.{Request}
+use Rattle.misses.proofs.CoverThird.{brought_more}
+use Rattle.misses.specs.MissHistory.{Brought}
+use Rattle.frame_reading.specs.Reading.{read_of}
+use Rattle.frame_round_trip.proofs.Accepted.{reads}
+use Rattle.settling.specs.Counting.{nothing}
+use Rattle.settling.specs.Ring.{◌∈◌}
+use Rattle.station.specs.Rules.Calls.{Call, start, after, refused_by, verdict}
+use Rattle.station.specs.Rules.Hearing.{Hearing, requested}
+use Rattle.station.proofs.RefusedLeft.{refused_left}
+use Rattle.station.specs.RefusedLeft.{Spared, same, turned_off}
+use Rattle.station.specs.Rules.State.{is_participating}
+use Rattle.station.proofs.States.ListKept.{set_either}
+use Rattle.station.specs.Rules.Waits.{counts_as}
+use Rattle.station.specs.Types.{Entry, Fields, Frame}
+use Rattle.station.specs.declared.Station.{Station}
+use Rattle.ring.specs.Counts.{Does}
+use Rattle.ring.specs.Events.{Stations, stray, after_event, Stray, refused, starts, harmless, CanCome}
+use Rattle.ring.proofs.Lists.{ring_kept}
+use Rattle.ring.specs.Member.{InRing}
+use Rattle.ring.proofs.Member.{listed}
+use Rattle.ring.proofs.Steps.{Ok}
+use Rattle.ring.specs.Strays.{Kept}
+use Rattle.station.proofs.Outcomes.HearCases as on_hearing_told
+use Rattle.station.specs.Outcomes.HearCases as on_hearing
+
+module _ {numbers : List ℕ} {number : ℕ} {station : Station} (in_ring : InRing numbers number station) where
+  unchanged : Kept numbers number station station
+  unchanged = record { in_ring = in_ring; view = refl; own = refl; elapsed = refl }
+
+  unchanged_if : {left : Station} → left ≡ station → Kept numbers number station left
+  unchanged_if e = subst (Kept numbers number station) (sym e) unchanged
+
+  inside : is_participating station.phase ≡ true
+  inside = ap is_participating in_ring.participates
+
+  -- a refused call alters nothing of a participant
+  refused_kept : (call : Call) (refusal : _) → verdict station call ≡ refused_by refusal → Kept numbers number station (after station call)
+  refused_kept call refusal e = by (refused_left station call refusal e).state
+    where
+      by : Spared station (after station call) refusal → Kept numbers number station (after station call)
+      by (same d) = unchanged_if d
+      by (turned_off six out d) = absurd (false≢true (sym out ∙ inside))
+
+  -- a start is refused
+  start_kept : (settings : _) → after station (start settings) ≡ station
+  start_kept settings = rw in_ring.participates
+
+  -- a request of another station of the ring, with the one watch time, replaces its entry
+  request_kept : (frame : Fields) → frame.source ∈ numbers → (counts_as frame.watch).0 ≡ station.own.watch.0 → ¬ (frame.source ≡ number)
+      → Kept numbers number station (requested station frame)
+  request_kept frame m timed other = record {
+    in_ring = record {
+      participates = in_ring.participates;
+      own = in_ring.own;
+      list = ring_kept number frame.source station.members _ (sym (listed in_ring frame.source m other)) ∙ in_ring.list;
+      times = λ x p q.
+          set_either (λ (entry : Entry). (counts_as entry.watch).0 ≡ station.own.watch.0) station.members.entries frame.source _ x
+          (λ same. timed) (in_ring.times x p q);
+      view = in_ring.view;
+      areas = in_ring.areas;
+      place = in_ring.place;
+    };
+    view = refl;
+    own = refl;
+    elapsed = refl;
+  }
+
+  -- a trigger, or a request of a station of the ring
+  frame_kept : {octets memory assembly : List ℕ} {result : Hearing} (frame : Fields) → read_of octets ≡ Frame frame → is_cyclic frame.code ≡ false →
+      (frame.code ≡ Request → (frame.source ∈ numbers) × ((counts_as frame.watch).0 ≡ station.own.watch.0)) → on_hearing.HearCases station octets memory assembly result →
+      Kept numbers number station result.station
+  frame_kept frame read plain from (on_hearing.refuses refusal) = unchanged
+  frame_kept frame read plain from (on_hearing.turns_off out) = absurd (false≢true (sym out ∙ inside))
+  frame_kept frame read plain from (on_hearing.gathers other facts parts) =
+      let is = reads (on_hearing_told.whole_of facts.accepts) in
+      let alike : frame ≡ other = cc in
+      absurd (false≢true (sym plain ∙ ap (λ (f : Fields). is_cyclic f.code) alike ∙ facts.cyclic))
+  frame_kept frame read plain from (on_hearing.heeds other facts entered) =
+      on_hearing_told.entering {station = station} {frame = other} (λ left answer. Kept numbers number station left) (λ e. unchanged)
+      (λ e c. absurd (false≢true (sym (ap is_participating e) ∙ inside))) (λ e c. absurd (false≢true (sym (on_hearing_told.awaits_outside e) ∙ inside)))
+      (λ e c. unchanged) (λ e c. absurd (false≢true (sym (ap is_participating e) ∙ inside)))
+      (λ e c. requested_kept e c) (λ e. unchanged) entered
+    where
+      requested_kept : on_hearing.Lists station.phase → other.code ≡ Request → Kept numbers number station (requested station other)
+      requested_kept e c =
+          let is = reads (on_hearing_told.whole_of facts) in
+          let alike : other ≡ frame = cc in
+          let among = from (ap (λ (f : Fields). f.code) (sym alike) ∙ c) in
+          request_kept other (rw alike among.0) (rw alike among.1) (λ d. eqb-false _ _ (on_hearing_told.other_of facts (on_hearing_told.lists_on e)) (d ∙ sym in_ring.own))
+
+  pub stray_kept : {call : Call} → Stray numbers station call → Kept numbers number station (after station call)
+  stray_kept (refused {call} refusal e) = refused_kept call refusal e
+  stray_kept (starts settings) = unchanged_if (start_kept settings)
+  stray_kept (harmless octets memory assembly fields read plain from) =
+      frame_kept fields read plain from (on_hearing_told.hear_cases station octets memory assembly)
+
+module _ (numbers : List ℕ) (stations : Stations) (ok : Ok numbers stations) (who : ℕ) (call : Call) (can : CanCome numbers stations (stray who call)) where
+  left_of : (n : ℕ) → n ∈ numbers → Kept numbers n (stations n) (after_event stations (stray who call) n)
+  left_of n m = by (ℕ_discrete n who)
+    where
+      by : Dec (n ≡ who) → Kept numbers n (stations n) (after_event stations (stray who call) n)
+      by (yes e) =
+          let here : after_event stations (stray who call) who ≡ after (stations who) call = rw (eq-eqb who who refl) in
+          subst (λ (k : ℕ). Kept numbers k (stations k) (after_event stations (stray who call) k)) (sym e)
+          (subst (Kept numbers who (stations who)) (sym here) (stray_kept (ok.each who can.0) can.1))
+      by (no e) =
+          let there : after_event stations (stray who call) n ≡ stations n = rw (ne_eqb n who e) in
+          subst (Kept numbers n (stations n)) (sym there) (unchanged (ok.each n m))
+
+  brought_on : (n : ℕ) → n ∈ numbers → (test : Bool) → Brought (cond test (after (stations who) call) (stations n))
+  brought_on n m true = brought_more (ok.brought who can.0) call
+  brought_on n m false = ok.brought n m
+
+  pub stray_ok : Ok numbers (after_event stations (stray who call))
+  stray_ok = record {
+    each = λ n m. (left_of n m).in_ring;
+    watch = λ n k p q. ap (λ own. own.watch.0) (left_of n p).own ∙ ok.watch n k p q ∙ sym (ap (λ own. own.watch.0) (left_of k q).own);
+    elapsed = λ n k p q. ap (λ t. t.0) (left_of n p).elapsed ∙ ok.elapsed n k p q ∙ sym (ap (λ t. t.0) (left_of k q).elapsed);
+    brought = λ n m. brought_on n m (eqb n who);
+  }
+
+  pub stray_does : Does numbers stations (stray who call)
+  stray_does = nothing refl (λ n m. refl) (λ n m. (left_of n m).view)

@@ -1,0 +1,2 @@
+// Worked rings. There is no code here.
+#![tactic(auto)]

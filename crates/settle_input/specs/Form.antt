@@ -1,0 +1,50 @@
+-- Laws of the form of a line, for code that works on parts of it. Assumes nothing.
+use Rattle.std.specs.Prelude.{◌≡◌, ◌&&◌, ◌∷◌, ◌+◌, ◌<◌, ◌≤◌}
+use Rattle.laws.specs.Usual.{refl, sym, ap, ◌∙◌, cond, List, [], ℕ, suc, arith, length, take, ltb}
+use Rattle.std.proofs.Common.{add-one, length-take, take_all}
+use Rattle.std.proofs.Math.Decide.{dec_lt}
+use borrow.Author.Tests.{lt-ltb, le-ltb}
+use Rattle.text.specs.Lines.{comma, line_feed}
+use Rattle.text_reading.specs.MarkLaws.{before_most}
+use Rattle.text_reading.specs.Marks.{before, up_to, behind}
+use Rattle.settle_input.specs.Input.{number_in, no_entry, entry_of, first_line}
+
+pub empty_list : (l : List ℕ) → length l ≤ 0 → l ≡ []
+empty_list [] h = refl
+empty_list (x ∷ l) h = absurd (omega arith)
+
+pub line_with_end : (octets : List ℕ) → before line_feed octets < length octets → before line_feed octets + 1 ≡ length (first_line octets)
+line_with_end octets h = sym (length-take (suc (before line_feed octets)) octets ∙ omega arith)
+
+pub line_without_end : (octets : List ℕ) → length octets ≤ before line_feed octets → before line_feed octets ≡ length (first_line octets)
+line_without_end octets h = sym (length-take (suc (before line_feed octets)) octets ∙ omega (arith, before_most line_feed octets))
+
+pub no_comma : (line : List ℕ) → length line ≤ before comma line → no_entry ≡ entry_of line
+unfolding entry_of
+no_comma line h = rw (le-ltb _ _ h)
+
+module _ (line : List ℕ) (within : before comma line < length line) where
+  pub no_end : length (behind comma line) ≤ before line_feed (behind comma line) → no_entry ≡ entry_of line
+  unfolding entry_of
+  no_end h = rw (lt-ltb _ _ within, le-ltb _ _ h)
+
+  -- the two numbers, where both are numbers
+  pub entry_made : before line_feed (behind comma line) < length (behind comma line)
+      → cond (ltb 0 (number_in (up_to comma line)) && ltb 0 (number_in (up_to line_feed (behind comma line))))
+      (record { station = number_in (up_to comma line); view = number_in (up_to line_feed (behind comma line)) })
+      no_entry ≡ entry_of line
+  unfolding entry_of
+  entry_made h = rw (lt-ltb _ _ within, lt-ltb _ _ h)
+
+-- the first line is a part of the octets, from their start
+pub first_line_most : (octets : List ℕ) → length (first_line octets) ≤ length octets
+first_line_most octets = omega (arith, length-take (suc (before line_feed octets)) octets)
+
+pub first_line_taken : (octets : List ℕ) → take (length (first_line octets)) octets ≡ first_line octets
+first_line_taken octets = go (dec_lt (before line_feed octets) (length octets))
+  where
+    go : Dec (before line_feed octets < length octets) → take (length (first_line octets)) octets ≡ first_line octets
+    go (yes h) = ap (λ (k : ℕ). take k octets) (sym (line_with_end octets h) ∙ add-one (before line_feed octets))
+    go (no h) =
+        let short : length octets ≤ before line_feed octets = omega arith in
+        take_all (length (first_line octets)) octets (omega (arith, line_without_end octets short)) ∙ sym (take_all (suc (before line_feed octets)) octets (omega arith))

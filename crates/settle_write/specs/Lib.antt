@@ -1,0 +1,1 @@
+-- This crate only hands octets on: what they are is said by `settle_print`.

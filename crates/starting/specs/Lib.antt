@@ -1,0 +1,2 @@
+-- What a start does, by its answer.
+pub mod Answers

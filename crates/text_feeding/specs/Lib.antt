@@ -1,0 +1,4 @@
+-- The definitions of this crate.
+pub mod Feeding
+pub mod Counts
+pub mod Cut

@@ -1,0 +1,9 @@
+-- The definitions of this crate, and what is proved of them.
+pub mod Values
+pub mod Marks
+pub mod Parts
+-- Theorems.
+pub mod ValueLaws
+pub mod MarkLaws
+pub mod PartLaws
+pub mod Told
