@@ -4,8 +4,9 @@ use Rattle.laws.specs.Usual.{refl, sym, ap, Bool, true, false, cond}
 use Rattle.boundary_answers.specs.Numbers.{ticked_answer}
 use Rattle.boundary_core.specs.Crossing.{station_of, core_of}
 use Rattle.boundary_core.specs.declared.Core.{Core}
-use Rattle.boundary_watch.specs.Watch.{is_quiet, quiet_after, quiet_tick, quiet_core}
-use Rattle.boundary_waiting.specs.Ticks.{counts}
+use Rattle.boundary_watch.specs.Watch.{is_quiet, quiet_after}
+use Rattle.boundary_watch.proofs.Watch.{quiet_tick, quiet_core}
+use Rattle.boundary_waiting.proofs.Ticks.{counts}
 use Rattle.boundary_waiting.specs.Waiting.{is_waiting, waited_core}
 use Rattle.station.specs.Rules.Ticking.{Ticking, watch_time, tick_of}
 use Rattle.station.specs.Types.{Milliseconds, Members}

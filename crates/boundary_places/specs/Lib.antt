@@ -1,4 +1,4 @@
 -- Definitions.
 pub mod Places
+
 -- Theorems.
-pub mod Laws

@@ -1,3 +1,2 @@
 -- The ticks that only count, before we participate, and what is proved of them.
 pub mod Waiting
-pub mod Ticks

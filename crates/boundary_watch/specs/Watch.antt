@@ -33,14 +33,5 @@ quiet_after core = record {
 }
 
 module _ (core : Core) (members : Members) (quiet : is_quiet core (watch_time (station_of core members)) ≡ true) where
-  abbrev ends : Bool
+  abbrev pub ends : Bool
   ends = watch_ends (station_of core members)
-
-  four : core.phase ≡ 4
-  four = eqb-true core.phase 4 (first (eqb core.phase 4) (not ends) quiet)
-
-  pub quiet_tick : tick_of (station_of core members) ≡ record { station = station_of (quiet_after core) members; answer = Done }
-  quiet_tick = rw (four, not-true ends (second (eqb core.phase 4) (not ends) quiet))
-
-  pub quiet_core : core_of (tick_of (station_of core members)).station ≡ quiet_after core
-  quiet_core = ap (λ t. core_of t.station) quiet_tick ∙ rw four

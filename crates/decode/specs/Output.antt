@@ -4,9 +4,9 @@ use Rattle.std.specs.Prelude.{◌≡◌, ◌∷◌, ◌++◌}
 use Rattle.laws.specs.Usual.{refl, sym, ap, ap₂, ◌∙◌, Bool, cond, List, [], ℕ, arith, length, replicate}
 use Rattle.std.proofs.Common.{length-set}
 use Rattle.decode_answers.specs.Answers.{text_of}
-use Rattle.decode_line.specs.Begun.{begun_line}
+use Rattle.decode_line.proofs.Begun.{begun_line}
 use Rattle.decode_line.specs.Gathering.{fresh, pushed, buffer_by, buffer_after, answered}
-use Rattle.decode_line.specs.Heard.{line_heard}
+use Rattle.decode_line.proofs.Heard.{line_heard}
 use Rattle.text_hexadecimal.specs.Hexadecimal.{digit_of}
 use Rattle.decode_line.specs.Line.{line_answer, pushed_all, buffer_all}
 use Rattle.text_scanning.specs.Scanning.{NoFeed}

@@ -3,7 +3,7 @@ use Rattle.std.specs.Prelude.{◌≡◌, ◌∷◌}
 use Rattle.laws.specs.Usual.{refl, List, [], ℕ, drop}
 use Rattle.decode_line.specs.Gathering.{pushed, buffer_after, made, scanned, buffer_scanned}
 use Rattle.decode_line.specs.Line.{pushed_all, buffer_all}
-use Rattle.text_scanning.specs.Scans.{scan_part, buffer_part, scan_line, buffer_line}
+use Rattle.text_scanning.proofs.Scans.{scan_part, buffer_part, scan_line, buffer_line}
 use Rattle.decode_line.specs.declared.Gathered.{Gathered}
 use Rattle.decode_line.specs.declared.Scanned.{Scanned}
 use Rattle.text_feeding.proofs.Cut.{cut}

@@ -1,6 +1,5 @@
 -- The definitions of this crate, and what is proved of them.
 pub mod Gathering
 pub mod Line
+
 -- Theorems.
-pub mod Heard
-pub mod Begun

@@ -10,7 +10,7 @@ use Rattle.boundary_core.specs.declared.Core.{Core}
 use Rattle.frame_refusals.specs.Refusals.{number_of}
 use Rattle.boundary_lists.specs.Laws.{list_told}
 use Rattle.boundary_lists.specs.Lists.{members_in}
-use Rattle.boundary_places.specs.Laws.{kept_same, core_in_back}
+use Rattle.boundary_places.proofs.Laws.{kept_same, core_in_back}
 use Rattle.boundary_places.specs.Places.{kept}
 use Rattle.station.specs.Rules.Asking.{ask_of}
 use Rattle.station.specs.Rules.Calls.{Call, start, stop, tick, hear, ask, after, lent, Verdict, refused_by, unrefused, verdict, switched_verdict, heard_verdict, asked_verdict}

@@ -1,4 +1,4 @@
 -- Definitions.
 pub mod Parts
+
 -- Theorems.
-pub mod Laws

@@ -1,4 +1,3 @@
 -- The definitions of this crate.
 pub mod Codes
 pub mod Words
-pub mod Apart

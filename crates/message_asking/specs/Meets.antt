@@ -5,14 +5,14 @@ use Rattle.boundary_answers.specs.Numbers.{frame_answer, refused_answer}
 use Rattle.boundary_answers.specs.declared.Answer.{Answer}
 use Rattle.boundary_core.specs.Crossing.{core_of, station_in}
 use Rattle.boundary_lists.specs.Lists.{members_in}
-use Rattle.boundary_places.specs.Laws.{core_in_back, kept_same}
+use Rattle.boundary_places.proofs.Laws.{core_in_back, kept_same}
 use Rattle.boundary_places.specs.Places.{core_in, kept}
 use Rattle.boundary_told.specs.Told.{asked_told, written_told}
 use Rattle.frame.specs.declared.Refusal.TheVariants.{Buffer}
 use Rattle.message.specs.declared.Confirmation.{Confirmation}
 use Rattle.message_frames.specs.Frames.{whole_length, output_of}
 use Rattle.message_owed.specs.Laws.{owed_same}
-use Rattle.message_places.specs.Laws.{outgoing_same}
+use Rattle.message_places.proofs.Laws.{outgoing_same}
 use Rattle.message_places.specs.Outgoing.{outgoing_of, messages_of}
 use Rattle.message_places.specs.Owed.{owed_in, kept_owed}
 use Rattle.message_places.specs.Places.{outgoing_in, kept_outgoing, messages_in}

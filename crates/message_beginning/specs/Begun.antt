@@ -2,7 +2,7 @@
 use Rattle.std.specs.Prelude.{◌≡◌}
 use Rattle.laws.specs.Usual.{sym, Bool, cond, List, [], ℕ, length, replicate}
 use Rattle.message_owed.specs.Laws.{owed_same}
-use Rattle.message_places.specs.Laws.{outgoing_same}
+use Rattle.message_places.proofs.Laws.{outgoing_same}
 use Rattle.message_places.specs.Outgoing.{outgoing_of, messages_of}
 use Rattle.message_places.specs.Owed.{owed_in, kept_owed}
 use Rattle.message_places.specs.Places.{outgoing_in, kept_outgoing, messages_lent}

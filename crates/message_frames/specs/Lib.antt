@@ -2,5 +2,3 @@
 pub mod Places
 pub mod Frames
 pub mod Confirmations
-pub mod Carrying
-pub mod ReadBack

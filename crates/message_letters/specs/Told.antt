@@ -8,7 +8,7 @@ use Rattle.frame_reading.specs.Reading.{need, whole, marked, long, read_header_o
 use Rattle.frame_reading.specs.declared.Read.{Read}
 use Rattle.frame_reading.specs.declared.Read.TheVariants.{Frame, Refused}
 use Rattle.frame_refusals.specs.Refusals.{number_of}
-use Rattle.message.specs.Apart.{message_unknown}
+use Rattle.message.proofs.Apart.{message_unknown}
 use Rattle.message.specs.Codes.{is_message}
 use Rattle.message_rules.specs.Rules.Hearing.{is_letter}
 use Rattle.station.specs.Rules.Hearing.{lent_right}

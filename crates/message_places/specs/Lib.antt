@@ -2,5 +2,5 @@
 pub mod Outgoing
 pub mod Owed
 pub mod Places
+
 -- Theorems.
-pub mod Laws

@@ -12,7 +12,7 @@ use Rattle.message.specs.declared.Message.{Message}
 use Rattle.message.specs.declared.Posted.{Posted}
 use Rattle.message_answers.specs.Numbers.{posted_answer}
 use Rattle.message_frames.specs.Frames.{data_most}
-use Rattle.message_places.specs.Laws.{outgoing_same}
+use Rattle.message_places.proofs.Laws.{outgoing_same}
 use Rattle.message_places.specs.Outgoing.{outgoing_of, messages_of}
 use Rattle.message_places.specs.Places.{outgoing_in, kept_outgoing}
 use Rattle.message_places.specs.declared.Outgoing.{Outgoing}

@@ -12,7 +12,7 @@ use Rattle.frame.specs.declared.Coded.TheVariants.{Known, Unknown}
 use Rattle.frame.specs.declared.Refusal.{Refusal}
 use Rattle.frame_reading.specs.Reading.{whole, marked, long, fields_of}
 use Rattle.laws.specs.Tests.{first, second}
-use Rattle.message.specs.Apart.{message_unknown}
+use Rattle.message.proofs.Apart.{message_unknown}
 use Rattle.message.specs.declared.Letter.{Letter}
 use Rattle.message.specs.declared.Message.{Message}
 use Rattle.message_frames.specs.Frames.{letter_in, addressed, measured}

@@ -5,7 +5,7 @@ use Rattle.laws.specs.Usual.{refl, sym, ap, ◌∙◌, Bool, false, cond, List, 
 use Rattle.message.specs.declared.Confirmation.{Confirmation}
 use Rattle.message.specs.declared.Mail.TheVariants.{Unconfirmed}
 use Rattle.message.specs.declared.Slot.{Slot}
-use Rattle.message_places.specs.Laws.{outgoing_same}
+use Rattle.message_places.proofs.Laws.{outgoing_same}
 use Rattle.message_places.specs.Outgoing.{outgoing_of, messages_of}
 use Rattle.message_places.specs.Places.{outgoing_in, kept_outgoing}
 use Rattle.message_places.specs.declared.Outgoing.{Outgoing}

@@ -15,7 +15,7 @@ use Rattle.boundary_answers.specs.declared.Answer.{Answer}
 use Rattle.boundary_told.specs.Told.{route_read}
 use Rattle.boundary_places.specs.Places.{core_in}
 use Rattle.cases.specs.Marked.{every, rules, holds, marked, marked_hold}
-use Rattle.decode_line.specs.Heard.{line_heard}
+use Rattle.decode_line.proofs.Heard.{line_heard}
 use Rattle.decode_line.specs.Line.{line_answer, pushed_all, buffer_all}
 use Rattle.delivered.specs.Boxes.{Box, station_at, Done}
 use Rattle.delivered.specs.Frames.{heard_frame, written_frame}
@@ -49,7 +49,7 @@ use Rattle.frame_round_trip.specs.WriteBack.{WrittenBack}
 use Rattle.frame_round_trip.proofs.WriteBack.{written_back}
 use Rattle.settle_print.specs.Joined.{handed, after_fills, printed_whole}
 use Rattle.settle_input.specs.Input.{read_of as ring_read}
-use Rattle.settle_rest.specs.Begun.{counts_read}
+use Rattle.settle_rest.proofs.Begun.{counts_read}
 use Rattle.settle_rest.specs.Rest.{printing_of, is_over}
 use Rattle.settle_rest.specs.Whole.{output_of}
 use Rattle.settle_run.specs.Run.{is_ring, settled_of, Bounded}

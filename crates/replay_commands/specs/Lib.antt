@@ -1,6 +1,4 @@
 -- The definitions of this crate, and what is proved of them.
 pub mod Commands
+
 -- Theorems.
-pub mod Whole
-pub mod Kept
-pub mod Cases

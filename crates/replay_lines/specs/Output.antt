@@ -8,7 +8,7 @@ use Rattle.text_scanning.specs.Scanning.{NoFeed}
 use Rattle.text_feeding.proofs.Lines.{parted, Meaning, after_all, replies_to, Meant, Came, text_came}
 use Rattle.replay_input.specs.Gathering.{longest, fresh, pushed, pushed_all, buffer_all}
 use Rattle.replay_input.specs.declared.Line.{Line}
-use Rattle.replay_performing.specs.Lines.{line_performed}
+use Rattle.replay_performing.proofs.Lines.{line_performed}
 use Rattle.replay_performing.specs.Replaying.{Kept, Performed, performed}
 use Rattle.replay_reply_words.specs.Answers.{bad_text}
 use Rattle.text_hexadecimal.specs.Octets.{is_hexadecimal}

@@ -5,7 +5,7 @@ use Rattle.text_feeding.proofs.Cut.{cut}
 use Rattle.text_feeding.specs.Cut.{Cut, feed, clean}
 use Rattle.text_feeding.proofs.Scan.{scan_feed, scan_clean, Scan}
 use Rattle.replay_input.specs.Gathering.{pushed, made, scanned, buffer_scanned, pushed_all, buffer_all}
-use Rattle.text_scanning.specs.Scans.{scan_part, buffer_part, scan_line, buffer_line}
+use Rattle.text_scanning.proofs.Scans.{scan_part, buffer_part, scan_line, buffer_line}
 use Rattle.replay_input.specs.declared.Line.{Line}
 use Rattle.replay_input.specs.declared.Scanned.{Scanned}
 use Rattle.replay_performing.specs.Replaying.{Kept}

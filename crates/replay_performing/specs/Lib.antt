@@ -1,5 +1,4 @@
 -- What a command does, and what is proved of it.
 pub mod Replaying
+
 -- Theorems.
-pub mod Cut
-pub mod Lines

@@ -5,7 +5,7 @@ use Rattle.std.proofs.Common.{add-one, length-take, take_all}
 use Rattle.std.proofs.Math.Decide.{dec_lt}
 use borrow.Author.Tests.{lt-ltb, le-ltb}
 use Rattle.text.specs.Lines.{comma, line_feed}
-use Rattle.text_reading.specs.MarkLaws.{before_most}
+use Rattle.text_reading.proofs.MarkLaws.{before_most}
 use Rattle.text_reading.specs.Marks.{before, up_to, behind}
 use Rattle.settle_input.specs.Input.{number_in, no_entry, entry_of, first_line}
 

@@ -4,9 +4,9 @@ use Rattle.laws.specs.Usual.{refl, sym, ap, ap₂, subst, ◌∙◌, List, [], �
 use Rattle.std.proofs.Common.{append_assoc, append-nil, lt-ltb, length-drop}
 use Rattle.text.specs.Decimal.{decimal_of}
 use Rattle.text.specs.Lines.{comma, line_feed, line_of}
-use Rattle.text_reading.specs.MarkLaws.{before_behind, before_front, has_mark, up_to_lem, behind_it, split_mark}
+use Rattle.text_reading.proofs.MarkLaws.{before_behind, before_front, has_mark, up_to_lem, behind_it, split_mark}
 use Rattle.text_reading.specs.Marks.{before, up_to, behind}
-use Rattle.text_reading.specs.Told.{number_unmarked, number_told, told_number}
+use Rattle.text_reading.proofs.Told.{number_unmarked, number_told, told_number}
 use Rattle.text_reading.specs.Values.{number_or}
 use Rattle.settle_input.specs.Input.{number_in, entry_of, first_line}
 use Rattle.settle_input.specs.Short.{number_in_lem, formed, short_line}

@@ -6,7 +6,7 @@ use Rattle.std.proofs.Math.Decide.{dec_le, dec_lt}
 use Rattle.std.proofs.Math.ListN.{length-take, length-drop}
 use Rattle.std.proofs.Math.Seq.{take-nil}
 use Rattle.text.specs.Lines.{line_feed}
-use Rattle.text_reading.specs.MarkLaws.{before_front, before_whole}
+use Rattle.text_reading.proofs.MarkLaws.{before_front, before_whole}
 use Rattle.text_reading.specs.Marks.{before}
 use Rattle.settle_input.specs.Input.{lines_of, entry_of, forms_from, forms_of, read_of, bad, first_line}
 use Rattle.settle_input.specs.Form.{empty_list, line_with_end}

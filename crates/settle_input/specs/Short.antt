@@ -5,9 +5,9 @@ use Rattle.std.proofs.Math.Decide.{dec_le, ℕ_discrete}
 use Rattle.std.proofs.Common.{ltb-true, length-take, length-drop}
 use Rattle.laws.specs.Tests.{first, second}
 use Rattle.text.specs.Lines.{comma, line_feed}
-use Rattle.text_reading.specs.MarkLaws.{before_most, before_behind, before_front}
+use Rattle.text_reading.proofs.MarkLaws.{before_most, before_behind, before_front}
 use Rattle.text_reading.specs.Marks.{before, up_to, behind, has}
-use Rattle.text_reading.specs.Told.{number_most, number_told, few_digits}
+use Rattle.text_reading.proofs.Told.{number_most, number_told, few_digits}
 use Rattle.text_reading.specs.Values.{decimal_in, number_or}
 use Rattle.text_reading.specs.declared.Value.{Value}
 use Rattle.text_reading.specs.declared.Value.TheVariants.{Number, Nothing}

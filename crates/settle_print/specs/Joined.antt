@@ -4,7 +4,7 @@ use Rattle.std.proofs.Common.{append_assoc, append-nil}
 use Rattle.std.specs.Prelude.{◌≡◌, ◌++◌, ◌≤◌, zero}
 use Rattle.copying.specs.Laws.{front_read, length_pasted}
 use Rattle.settle_output.specs.Output.{room}
-use Rattle.settle_rest.specs.Begun.{begun}
+use Rattle.settle_rest.proofs.Begun.{begun}
 use Rattle.settle_rest.specs.Rest.{rest_of, is_over, printing_of}
 use Rattle.settle_rest.specs.Whole.{output_of}
 use Rattle.settle_rest.specs.declared.Printing.{Printing}

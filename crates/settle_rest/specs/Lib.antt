@@ -1,6 +1,5 @@
 -- The definitions of this crate, and what is proved of them.
 pub mod Whole
 pub mod Rest
+
 -- Theorems.
-pub mod Begun
-pub mod Shown

@@ -2,8 +2,5 @@
 pub mod Values
 pub mod Marks
 pub mod Parts
+
 -- Theorems.
-pub mod ValueLaws
-pub mod MarkLaws
-pub mod PartLaws
-pub mod Told

@@ -1,4 +1,4 @@
 -- The definitions of this crate, and what is proved of them.
 pub mod Scanning
+
 -- Theorems.
-pub mod Scans

@@ -9,7 +9,7 @@ use Rattle.boundary_core.specs.Crossing.{core_of, station_in, station_of}
 use Rattle.boundary_core.specs.declared.Core.{Core}
 use Rattle.boundary_lists.specs.Lists.{members_in}
 use Rattle.boundary_holder.specs.Held.{holds_block}
-use Rattle.boundary_places.specs.Laws.{core_in_back, left_alone}
+use Rattle.boundary_places.proofs.Laws.{core_in_back, left_alone}
 use Rattle.boundary_places.specs.Places.{core_in}
 use Rattle.boundary_due.specs.Due.{due_core, ask_refusal, refused_asked}
 use Rattle.boundary_told.specs.Told.{asked_told}

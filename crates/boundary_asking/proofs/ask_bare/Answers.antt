@@ -2,7 +2,7 @@
 use Rattle.laws.specs.Usual.{◌∙◌, rules}
 use Rattle.boundary_bare.specs.Bare.{bare_fields, after_bare, sent_bare}
 use Rattle.boundary_lists.specs.Lists.{members_in}
-use Rattle.boundary_places.specs.Laws.{put_in}
+use Rattle.boundary_places.proofs.Laws.{put_in}
 use Rattle.boundary_told.specs.Routes.{told_asked}
 use Rattle.boundary_asking.proofs.ask_bare.Goals as goal
 

@@ -3,7 +3,7 @@ use Rattle.laws.specs.Usual.{sym, ap, rules}
 use Rattle.boundary_core.specs.Crossing.{station_of}
 use Rattle.boundary_lists.specs.Lists.{members_in}
 use Rattle.boundary_holder.specs.Held.{held_asked}
-use Rattle.boundary_places.specs.Laws.{put_in}
+use Rattle.boundary_places.proofs.Laws.{put_in}
 use Rattle.station.specs.Rules.Asking.{Asking, ask_of}
 use Rattle.boundary_asking.proofs.ask_block.Goals as goal
 

@@ -5,7 +5,7 @@ use Rattle.boundary_answers.specs.Numbers.{ticked_answer}
 use Rattle.boundary_calm.specs.Calm.{counted}
 use Rattle.boundary_core.specs.Crossing.{core_of}
 use Rattle.boundary_lists.specs.Lists.{members_in}
-use Rattle.boundary_waiting.specs.Ticks.{stays_off}
+use Rattle.boundary_waiting.proofs.Ticks.{stays_off}
 use Rattle.boundary_waiting.specs.Waiting.{is_waiting}
 use Rattle.boundary_watch.specs.Watch.{is_quiet}
 use Rattle.laws.specs.Tests.{neither_first, neither_second}

@@ -1,7 +1,7 @@
 -- `boundary_frames::hear_cyclic` meets its contract.
 use Rattle.laws.specs.Usual.{refl, rules}
 use Rattle.boundary_core.specs.Crossing.{station_in}
-use Rattle.boundary_places.specs.Laws.{put_in}
+use Rattle.boundary_places.proofs.Laws.{put_in}
 use Rattle.station.specs.Rules.Hearing.{hear_of}
 use Rattle.boundary_frames.proofs.hear_cyclic.Goals as goal
 

@@ -9,7 +9,7 @@ use Rattle.boundary_entering.specs.Entering.{for_participant, not_for_participan
 use Rattle.boundary_frames.specs.Carried.{carried, entered_leaves}
 use Rattle.boundary_lists.specs.Laws.{listed_in}
 use Rattle.boundary_lists.specs.Lists.{members_in}
-use Rattle.boundary_places.specs.Laws.{core_in_back, left_alone}
+use Rattle.boundary_places.proofs.Laws.{core_in_back, left_alone}
 use Rattle.boundary_places.specs.Places.{core_in}
 use Rattle.boundary_refused.specs.Leaves.{heard_leaves}
 use Rattle.boundary_refused.specs.Strange.{is_strange, strange_heard}

@@ -2,7 +2,7 @@
 use Rattle.laws.specs.Usual.{ap, ◌∙◌, rules}
 use Rattle.boundary_answers.specs.declared.Answer.{Answer}
 use Rattle.boundary_core.specs.Crossing.{phase_of, station_in}
-use Rattle.boundary_places.specs.Laws.{put_in}
+use Rattle.boundary_places.proofs.Laws.{put_in}
 use Rattle.boundary_told.specs.Told.{route_of, with_frame}
 use Rattle.station.specs.Rules.Hearing.{enters}
 use Rattle.boundary_frames.proofs.hear_seldom.Goals as goal

@@ -3,7 +3,7 @@ use Rattle.laws.specs.Usual.{sym, ap, ◌∙◌, rules}
 use Rattle.boundary_answers.specs.Numbers.{refused_answer, heard_answer}
 use Rattle.boundary_core.specs.Crossing.{core_of, station_of}
 use Rattle.boundary_lists.specs.Lists.{members_in}
-use Rattle.boundary_places.specs.Laws.{core_in_back, left_alone}
+use Rattle.boundary_places.proofs.Laws.{core_in_back, left_alone}
 use Rattle.boundary_places.specs.Places.{core_in}
 use Rattle.boundary_refused.specs.Unheard.{header_refused}
 use Rattle.boundary_told.specs.Routes.{told_unread, header_unread}

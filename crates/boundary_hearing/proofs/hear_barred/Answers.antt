@@ -5,7 +5,7 @@ use borrow.Author.Tests.{not-false}
 use Rattle.boundary_core.specs.Crossing.{core_of, station_of}
 use Rattle.boundary_core.specs.declared.Core.{Core}
 use Rattle.boundary_lists.specs.Lists.{members_in}
-use Rattle.boundary_places.specs.Laws.{core_in_back, left_alone, put_in}
+use Rattle.boundary_places.proofs.Laws.{core_in_back, left_alone, put_in}
 use Rattle.boundary_places.specs.Places.{core_in}
 use Rattle.boundary_refused.specs.Leaves.{heard_leaves}
 use Rattle.boundary_refused.specs.Taken.{is_taken_by, taken_heard, taken_stops}

@@ -2,7 +2,7 @@
 use Rattle.std.specs.Prelude.{◌≤◌}
 use Rattle.laws.specs.Usual.{arith, ap, ◌∙◌, rules}
 use Rattle.boundary_core.specs.declared.Core.{Core}
-use Rattle.boundary_places.specs.Laws.{Fits, kept_core}
+use Rattle.boundary_places.proofs.Laws.{Fits, kept_core}
 use Rattle.boundary_places.specs.Places.{core_in, kept}
 use Rattle.boundary_keeping.proofs.keep.Goals as goal
 

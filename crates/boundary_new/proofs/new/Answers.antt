@@ -1,6 +1,6 @@
 -- `boundary_new::new` meets its contract.
 use Rattle.laws.specs.Usual.{replicate}
-use Rattle.boundary_places.specs.Laws.{put_in}
+use Rattle.boundary_places.proofs.Laws.{put_in}
 use Rattle.boundary_places.specs.Places.{kept}
 use Rattle.station.specs.Rules.State.{never}
 use Rattle.boundary_new.proofs.new.Goals as goal

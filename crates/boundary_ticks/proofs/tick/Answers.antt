@@ -5,7 +5,7 @@ use Rattle.boundary_core.specs.Crossing.{station_in}
 use Rattle.boundary_core.specs.declared.Core.{Core}
 use Rattle.boundary_calm.specs.Calm.{counted}
 use Rattle.boundary_lists.specs.Lists.{members_in}
-use Rattle.boundary_places.specs.Laws.{call_kept}
+use Rattle.boundary_places.proofs.Laws.{call_kept}
 use Rattle.station.specs.Rules.Ticking.{Ticking, tick_of}
 use Rattle.boundary_ticks.proofs.tick.Goals as goal
 

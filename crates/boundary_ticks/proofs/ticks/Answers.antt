@@ -3,7 +3,7 @@ use Rattle.laws.specs.Usual.{rules}
 use Rattle.boundary_answers.specs.Numbers.{ticked_answer}
 use Rattle.boundary_core.specs.Crossing.{station_in}
 use Rattle.boundary_core.specs.declared.Core.{Core}
-use Rattle.boundary_places.specs.Laws.{call_kept}
+use Rattle.boundary_places.proofs.Laws.{call_kept}
 use Rattle.station.specs.Rules.Ticking.{Ticking}
 use Rattle.ticking_quiet.specs.Many.{ticks_of}
 use Rattle.boundary_ticks.proofs.ticks.Goals as goal

@@ -2,7 +2,7 @@
 use Rattle.std.specs.Prelude.{◌≡◌, ◌+◌, ◌-◌}
 use Rattle.laws.specs.Usual.{refl, sym, ap, ap₂, ◌∙◌, List, [], ℕ, arith, length, get_or, drop}
 use lib.ListN.{drop_of_length-le}
-use Rattle.text_scanning.specs.Scans.{scan_on, scan_ended, buffer_on, buffer_ended}
+use Rattle.text_scanning.proofs.Scans.{scan_on, scan_ended, buffer_on, buffer_ended}
 use Rattle.decode_line.specs.Gathering.{pushed, buffer_after, made, scanned, buffer_scanned}
 use Rattle.decode_line.specs.declared.Gathered.{Gathered}
 use Rattle.decode_scanning.proofs.scan.Goals as goal

@@ -1,6 +1,6 @@
 -- `message_kept::keep` meets its contract.
 use Rattle.laws.specs.Usual.{arith, ap, ◌∙◌, rules}
-use Rattle.message_places.specs.Laws.{Fits, kept_outgoing_lem}
+use Rattle.message_places.proofs.Laws.{Fits, kept_outgoing_lem}
 use Rattle.message_places.specs.Places.{outgoing_in}
 use Rattle.message_kept.proofs.keep.Goals as goal
 

@@ -6,14 +6,14 @@ use Rattle.boundary_core.specs.Crossing.{core_of, station_of}
 use Rattle.boundary_core.specs.declared.Core.{Core}
 use Rattle.boundary_lists.specs.Laws.{listed_in}
 use Rattle.boundary_lists.specs.Lists.{members_in}
-use Rattle.boundary_places.specs.Laws.{core_in_back, left_alone}
+use Rattle.boundary_places.proofs.Laws.{core_in_back, left_alone}
 use Rattle.boundary_places.specs.Places.{core_in}
 use Rattle.message.specs.declared.Confirmation.{Confirmation}
 use Rattle.message.specs.declared.Letter.{Letter}
 use Rattle.message_frames.specs.Frames.{letter_in}
 use Rattle.message_letter_tests.specs.Laws.{turned_off}
 use Rattle.message_letter_tests.specs.Tests.{turns_off_by}
-use Rattle.message_places.specs.Laws.{outgoing_same}
+use Rattle.message_places.proofs.Laws.{outgoing_same}
 use Rattle.message_places.specs.Outgoing.{messages_of}
 use Rattle.message_places.specs.Owed.{owed_in}
 use Rattle.message_places.specs.Places.{outgoing_in, messages_in}

@@ -16,7 +16,7 @@ use Rattle.frame_round_trip.specs.Accepted.{Accepted}
 use Rattle.frame_round_trip.proofs.Accepted.{accepted as passed}
 use Rattle.laws.specs.Tests.{both, first, second, implied}
 use Rattle.message.specs.declared.Confirmation.{Confirmation}
-use Rattle.message_frames.specs.Carrying.{is_elsewhere, elsewhere, word_elsewhere, length_carrying, length_read, behind}
+use Rattle.message_frames.proofs.Carrying.{is_elsewhere, elsewhere, word_elsewhere, length_carrying, length_read, behind}
 use Rattle.message_frames.specs.Confirmations.{carrying}
 use Rattle.message_frames.specs.Places.{confirmation_length}
 

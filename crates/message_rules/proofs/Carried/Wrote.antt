@@ -11,7 +11,7 @@ use Rattle.message.specs.declared.Confirmation.{Confirmation}
 use Rattle.message_rules.proofs.Ring.Buffers.{read_frame}
 use Rattle.message_rules.proofs.Carried.CarriedHeard.{carried_heard}
 use Rattle.message_rules.proofs.Carried.CarriedRead.{accepted_with, relength, Plain}
-use Rattle.message_frames.specs.Carrying.{length_carrying}
+use Rattle.message_frames.proofs.Carrying.{length_carrying}
 use Rattle.message_frames.specs.Confirmations.{carrying}
 use Rattle.message_frames.specs.Places.{confirmation_length}
 use Rattle.message_rules.specs.Rules.Calls.{Both, hear_of, carried_by}

@@ -13,7 +13,7 @@ use Rattle.message_rules.proofs.Letters.LetterSent.{asks_letter, octets_are, is_
 use Rattle.message_rules.specs.Ring.Reached.{Reachable}
 use Rattle.message_rules.proofs.Ring.Reached.{ring_sound}
 use Rattle.message_frames.specs.Frames.{letter_in, addressed, measured, whole_length, frame_of}
-use Rattle.message_frames.specs.ReadBack.{letter_read, letter_data, is_measured}
+use Rattle.message_frames.proofs.ReadBack.{letter_read, letter_data, is_measured}
 use Rattle.message_rules.specs.Rules.Again.{letter_going}
 use Rattle.message_rules.specs.Rules.Calls.{Both, hear, ask_of, Asking, Hearing, hear_of, received_verdict, verdict, letter_heard, frame_heard}
 use Rattle.message_rules.specs.Rules.Cycle.{is_before_blocks, goes}

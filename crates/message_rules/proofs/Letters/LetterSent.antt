@@ -6,7 +6,7 @@ use Rattle.laws.specs.Tests.{both, first, second}
 use Rattle.message.specs.Codes.{is_message}
 use Rattle.message.specs.declared.Letter.{Letter}
 use Rattle.message_frames.specs.Frames.{whole_length, frame_of, output_of}
-use Rattle.message_frames.specs.ReadBack.{frame_written, code_read, is_marked, is_long, is_whole}
+use Rattle.message_frames.proofs.ReadBack.{frame_written, code_read, is_marked, is_long, is_whole}
 use Rattle.message_rules.proofs.Outcomes.{goes_ready}
 use Rattle.message_rules.specs.Rules.Again.{is_to_go, letter_going}
 use Rattle.message_rules.specs.Rules.Calls.{Both, ask_of, letter_asked}

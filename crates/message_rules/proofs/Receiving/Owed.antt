@@ -21,7 +21,7 @@ use Rattle.message_rules.proofs.Carried.CarriedRead.{Plain, plain_of, plain_size
 use Rattle.message_rules.specs.Ring.Reached.{Reachable}
 use Rattle.message_rules.proofs.Ring.Reached.{ring_reached}
 use Rattle.message_rules.proofs.Carried.Wrote.{put_in}
-use Rattle.message_frames.specs.Carrying.{confirmation_read, confirmation_seen}
+use Rattle.message_frames.proofs.Carrying.{confirmation_read, confirmation_seen}
 use Rattle.message_frames.specs.Confirmations.{confirms, confirmation_in}
 use Rattle.message_frames.specs.Frames.{letter_in}
 use Rattle.message_frames.specs.Places.{confirmation_length}

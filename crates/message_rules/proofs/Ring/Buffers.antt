@@ -7,7 +7,7 @@ use Rattle.frame.specs.declared.Fields.{Fields}
 use Rattle.frame_reading.specs.Reading.{whole, marked, long, read_of}
 use Rattle.frame_reading.specs.declared.Read.TheVariants.{Frame, Refused}
 use Rattle.laws.specs.Tests.{first, second}
-use Rattle.message.specs.Apart.{message_unknown}
+use Rattle.message.proofs.Apart.{message_unknown}
 use Rattle.message_rules.proofs.Ring.Reached.{ring_reached}
 use Rattle.message_rules.specs.Ring.Reached.{Reachable}
 use Rattle.message_rules.specs.Rules.Calls.{Both, Hearing, hear_of}

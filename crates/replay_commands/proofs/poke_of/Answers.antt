@@ -9,9 +9,9 @@ use Rattle.laws.specs.Lists.{to_end}
 use Rattle.replay_commands.specs.Commands.{poke_by, poke_of}
 use Rattle.text_hexadecimal.specs.Octets.{octets_of}
 use Rattle.text_reading.specs.Marks.{before}
-use Rattle.text_reading.specs.PartLaws.{first_part, end_place, no_end, place_of, part_at, ended_at}
+use Rattle.text_reading.proofs.PartLaws.{first_part, end_place, no_end, place_of, part_at, ended_at}
 use Rattle.text_reading.specs.Parts.{end_of}
-use Rattle.replay_words.specs.WordLaws.{read_at}
+use Rattle.replay_words.proofs.WordLaws.{read_at}
 use Rattle.text.specs.Lines.{space}
 use Rattle.replay_words.specs.Words.{number_in, number_at, words_behind}
 use Rattle.replay_commands.specs.declared.Command.TheVariants.{Poke, Bad}

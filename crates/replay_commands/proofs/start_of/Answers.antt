@@ -4,8 +4,8 @@ use Rattle.laws.specs.Usual.{refl, sym, ap, ◌∙◌, Bool, cond, List, ℕ, le
 use borrow.Author.Tests.{le-leb, lt-leb}
 use Rattle.replay_commands.specs.Commands.{start_by, start_of}
 use Rattle.text.specs.Lines.{space}
-use Rattle.text_reading.specs.PartLaws.{ended_at}
-use Rattle.replay_words.specs.WordLaws.{read_at}
+use Rattle.text_reading.proofs.PartLaws.{ended_at}
+use Rattle.replay_words.proofs.WordLaws.{read_at}
 use Rattle.replay_words.specs.Words.{number_in, number_at, words_behind}
 use Rattle.replay_commands.specs.declared.Command.TheVariants.{Bad}
 use Rattle.replay_words.specs.declared.Number.{Number}

@@ -3,8 +3,8 @@ use Rattle.std.specs.Prelude.{◌≡◌, ◌&&◌}
 use Rattle.laws.specs.Usual.{refl, sym, ap, ◌∙◌, Bool, cond, List, ℕ, length, leb}
 use Rattle.replay_commands.specs.Commands.{tick_of}
 use Rattle.text.specs.Lines.{space}
-use Rattle.text_reading.specs.PartLaws.{ended_at}
-use Rattle.replay_words.specs.WordLaws.{read_at}
+use Rattle.text_reading.proofs.PartLaws.{ended_at}
+use Rattle.replay_words.proofs.WordLaws.{read_at}
 use Rattle.replay_words.specs.Words.{number_in, number_at, words_behind}
 use Rattle.replay_commands.specs.declared.Command.TheVariants.{Tick, Bad}
 use Rattle.replay_words.specs.declared.Number.{Number}

@@ -6,7 +6,7 @@ use lib.ListN.{length-take}
 use Rattle.text_hexadecimal.specs.Octets.{octets_of}
 use Rattle.copying.specs.Laws.{front_read}
 use Rattle.copying.specs.Pasted.{pasted}
-use Rattle.replay_performing.specs.Cut.{hear_cut}
+use Rattle.replay_performing.proofs.Cut.{hear_cut}
 use Rattle.replay_replies.specs.Replies.{heard_text}
 use Rattle.station.specs.Rules.Hearing.{Hearing, hear_of}
 use Rattle.replay_performing.proofs.hear.Goals as goal

@@ -2,7 +2,7 @@
 use Rattle.std.specs.Prelude.{◌≡◌, ◌+◌, ◌-◌}
 use Rattle.laws.specs.Usual.{refl, sym, ap, ap₂, ◌∙◌, List, [], ℕ, arith, length, get_or, drop}
 use lib.ListN.{drop_of_length-le}
-use Rattle.text_scanning.specs.Scans.{scan_on, scan_ended, buffer_on, buffer_ended}
+use Rattle.text_scanning.proofs.Scans.{scan_on, scan_ended, buffer_on, buffer_ended}
 use Rattle.replay_input.specs.Gathering.{pushed, stored, made, scanned, buffer_scanned}
 use Rattle.replay_input.specs.declared.Line.{Line}
 use Rattle.replay_scanning.proofs.scan.Goals as goal

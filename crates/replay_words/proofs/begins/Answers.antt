@@ -2,7 +2,7 @@
 use Rattle.std.specs.Prelude.{◌≡◌, ◌-◌}
 use Rattle.laws.specs.Usual.{refl, sym, ◌∙◌, length, drop, rules}
 use borrow.Author.Tests.{eq-eqb}
-use Rattle.replay_words.specs.WordLaws.{begins_done, begins_short, begins_other, begins_more}
+use Rattle.replay_words.proofs.WordLaws.{begins_done, begins_short, begins_other, begins_more}
 use Rattle.replay_words.specs.Words.{begins}
 use Rattle.replay_words.proofs.begins.Goals as goal
 

@@ -3,9 +3,9 @@ use Rattle.std.specs.Prelude.{◌≡◌, ◌+◌, ◌-◌, ◌≤◌}
 use Rattle.laws.specs.Usual.{sym, ap, ap₂, ◌∙◌, List, ℕ, arith, length, take, drop, rules}
 use lib.ListN.{length-drop}
 use Rattle.text.specs.Lines.{space}
-use Rattle.text_reading.specs.MarkLaws.{before_most}
+use Rattle.text_reading.proofs.MarkLaws.{before_most}
 use Rattle.text_reading.specs.Marks.{before}
-use Rattle.text_reading.specs.PartLaws.{first_part, end_place, no_parts, no_end}
+use Rattle.text_reading.proofs.PartLaws.{first_part, end_place, no_parts, no_end}
 use Rattle.replay_words.specs.Words.{decimal, number_in}
 use Rattle.replay_words.specs.declared.Number.{Number}
 use Rattle.replay_words.proofs.number_at.Goals as goal

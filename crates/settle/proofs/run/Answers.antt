@@ -1,7 +1,7 @@
 -- `settle::run` meets its contract.
 use Rattle.std.specs.Io.KnownBytes.{Appends}
 use Rattle.laws.specs.Usual.{ap, subst, ◌∙◌, List, ℕ, arith, length, take}
-use Rattle.settle_rest.specs.Begun.{begun}
+use Rattle.settle_rest.proofs.Begun.{begun}
 use Rattle.settle_rest.specs.Rest.{rest_of}
 use Rattle.settle_rest.specs.Whole.{output_of}
 use Rattle.settle.proofs.Whole.{whole_output}

@@ -1,6 +1,6 @@
 -- `settle_input::number_in` meets its contract.
 use Rattle.laws.specs.Usual.{sym, ap, ◌∙◌, arith, rules}
-use Rattle.text_reading.specs.Told.{number_most}
+use Rattle.text_reading.proofs.Told.{number_most}
 use Rattle.text_reading.specs.Values.{number_or}
 use Rattle.settle_input.proofs.number_in.Goals as goal
 

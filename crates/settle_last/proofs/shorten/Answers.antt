@@ -4,7 +4,7 @@ use Rattle.laws.specs.Usual.{sym, ap, ◌∙◌, ℕ, arith, rules}
 use Rattle.settle_run.specs.declared.Running.{Running}
 use Rattle.settle_run.specs.declared.Settled.{Settled}
 use Rattle.settle_run.specs.Counted.{running_after}
-use Rattle.settle_rest.specs.Shown.{all_shown}
+use Rattle.settle_rest.proofs.Shown.{all_shown}
 use Rattle.settle_last.proofs.shorten.Goals as goal
 
 pub returns-then-steps-shown : goal.returns-then-steps-shown

@@ -1,6 +1,6 @@
 -- `text_reading::decimal_in` meets its contract.
 use Rattle.laws.specs.Usual.{sym, ◌∙◌, rules}
-use Rattle.text_reading.specs.ValueLaws.{no_octets, zero_leads, none_leads}
+use Rattle.text_reading.proofs.ValueLaws.{no_octets, zero_leads, none_leads}
 use Rattle.text_reading.proofs.decimal_in.Goals as goal
 
 pub returns-then-octets-eq0 : goal.returns-then-octets-eq0

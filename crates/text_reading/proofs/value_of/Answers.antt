@@ -3,7 +3,7 @@ use Rattle.std.specs.Prelude.{◌≡◌, ◌-◌, ◌≤◌}
 use Rattle.laws.specs.Usual.{refl, sym, ap, ◌∙◌, arith, length, get_or, drop, rules}
 use lib.ListN.{drop_of_length-le}
 use borrow.Author.Tests.{not-true, not-false}
-use Rattle.text_reading.specs.ValueLaws.{digit_range, value_none, value_high, value_more}
+use Rattle.text_reading.proofs.ValueLaws.{digit_range, value_none, value_high, value_more}
 use Rattle.text_reading.specs.Values.{value_on}
 use Rattle.text_reading.proofs.value_of.Goals as goal
 

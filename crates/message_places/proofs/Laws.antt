@@ -3,7 +3,7 @@ use Rattle.laws.specs.Usual.{refl, sym, ap, ap₂, ◌∙◌, Bool, true, false,
 use Rattle.std.specs.Prelude.{◌≡◌, ◌∷◌, ◌<◌, ◌≤◌, zero}
 use Rattle.std.proofs.Common.{eq-eqb, le-leb, eqb-true, leb-true}
 use Rattle.low_parts.specs.Parts.{octet, octets, with_octet}
-use Rattle.low_parts.specs.Laws.{octet_back, octets_back, flag_back, octet_same, octets_same, flag_same, elements, all_elements}
+use Rattle.low_parts.proofs.Laws.{octet_back, octets_back, flag_back, octet_same, octets_same, flag_same, elements, all_elements}
 use Rattle.message.specs.Words.{mail_number}
 use Rattle.message.specs.declared.Mail.{Mail}
 use Rattle.message.specs.declared.Mail.TheVariants.{Nothing, Waiting, Unconfirmed, Confirmed, Sent, Failed}

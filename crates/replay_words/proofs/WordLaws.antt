@@ -3,7 +3,7 @@ use Rattle.std.specs.Prelude.{◌≡◌, ◌+◌, ◌<◌, ◌≤◌}
 use Rattle.laws.specs.Usual.{ap, ◌∙◌, true, false, List, ℕ, suc, length, get_or, drop, eqb}
 use Rattle.std.proofs.Common.{add-one, ne_eqb, drop_of_length-le, drop-cons}
 use Rattle.text.specs.Lines.{space}
-use Rattle.text_reading.specs.PartLaws.{place_of, part_at}
+use Rattle.text_reading.proofs.PartLaws.{place_of, part_at}
 use Rattle.text_reading.specs.Parts.{end_of}
 use Rattle.replay_words.specs.Words.{begins, words_behind, decimal, number_in, number_at}
 use Rattle.replay_words.specs.declared.Number.{Number}

@@ -10,7 +10,7 @@ use Rattle.station.specs.declared.Phase.{Phase}
 use Rattle.station.specs.declared.Phase.TheVariants.{Off, Listening, Startup, Joining, Participating}
 use Rattle.station.specs.declared.Station.{Station}
 use Rattle.low_parts.specs.Parts.{octet, with_octet}
-use Rattle.low_parts.specs.Laws.{octet_back, octets_back, flag_back, octet_same, octets_same, flag_same, elements, all_elements}
+use Rattle.low_parts.proofs.Laws.{octet_back, octets_back, flag_back, octet_same, octets_same, flag_same, elements, all_elements}
 use Rattle.boundary_places.specs.Places.{phase_in, core_in, with_phase, kept}
 
 -- each field is as wide as C has it, and the phase is one of the five

@@ -9,7 +9,7 @@ use Rattle.text.specs.Decimal.{behind, decimal_at, decimal_of}
 use Rattle.text.specs.Digits.{one_digit, last_digit}
 use Rattle.text_reading.specs.Marks.{before}
 use Rattle.text_reading.specs.Values.{is_digit, value_on, decimal_in}
-use Rattle.text_reading.specs.ValueLaws.{digit_range}
+use Rattle.text_reading.proofs.ValueLaws.{digit_range}
 use Rattle.text_reading.specs.declared.Value.TheVariants.{Number, Nothing}
 
 never : (n : ℕ) → Nothing ≡ Number n → ⊥

@@ -5,9 +5,9 @@ use Rattle.std.proofs.Math.Decide.{dec_le, dec_lt}
 use Rattle.std.proofs.Common.{add-zero, add-one, le-leb, lt-ltb, le-ltb, length-take, length-drop, drop-drop, get_or-drop}
 use Rattle.std.proofs.lemmas.Bool.{lt-leb}
 use Rattle.text_reading.specs.Marks.{before, up_to}
-use Rattle.text_reading.specs.MarkLaws.{before_most}
+use Rattle.text_reading.proofs.MarkLaws.{before_most}
 use Rattle.text_reading.specs.Parts.{in_front, parts_of, parts_behind, end_of}
-use Rattle.text_reading.specs.ValueLaws.{both_more}
+use Rattle.text_reading.proofs.ValueLaws.{both_more}
 
 -- what stands behind the first part
 abbrev others : ℕ → List ℕ → List (List ℕ)

@@ -5,12 +5,12 @@ use Rattle.std.proofs.Math.Decide.{dec_le, dec_lt}
 use Rattle.std.proofs.Common.{length-drop, take_all, leb-true, le-leb}
 use Rattle.std.proofs.lemmas.Bool.{lt-leb}
 use Rattle.replay_commands.specs.Commands.{stop, ask, panel, state, hear, hear_space, start_space, tick_space, poke_space, peek_space, start_by, start_of, tick_of, peek_of, poke_of, kept as kept_of, hear_of as hear_command, short_of, command_of, command_in}
-use Rattle.replay_commands.specs.Kept.{part_stored, heard_kept}
+use Rattle.replay_commands.proofs.Kept.{part_stored, heard_kept}
 use Rattle.text_hexadecimal.specs.OctetLaws.{octets_most, octets_first}
 use Rattle.text_hexadecimal.specs.Octets.{octets_of}
-use Rattle.replay_commands.specs.Whole.{line_read}
-use Rattle.text_reading.specs.MarkLaws.{before_most}
-use Rattle.text_reading.specs.PartLaws.{part_at, part_length, no_parts, end_place}
+use Rattle.replay_commands.proofs.Whole.{line_read}
+use Rattle.text_reading.proofs.MarkLaws.{before_most}
+use Rattle.text_reading.proofs.PartLaws.{part_at, part_length, no_parts, end_place}
 use Rattle.text_reading.specs.Parts.{end_of}
 use Rattle.text.specs.Lines.{space}
 use Rattle.comparing.specs.Same.{same}
@@ -19,7 +19,7 @@ use Rattle.replay_commands.specs.declared.Command.{Command}
 use Rattle.replay_commands.specs.declared.Command.TheVariants.{Start, Stop, Tick, Hear, Ask, Panel, Peek, State, Bad}
 use Rattle.replay_input.specs.Gathering.{longest, fresh, pushed_all, buffer_all}
 use Rattle.station.specs.Rules.Hearing.{hear_of}
-use Rattle.replay_performing.specs.Cut.{hear_cut}
+use Rattle.replay_performing.proofs.Cut.{hear_cut}
 use Rattle.replay_performing.specs.Replaying.{Kept, heard, poked, digits_in, performed}
 
 -- the digits of a `hear` line spell the first 1121 of its octets

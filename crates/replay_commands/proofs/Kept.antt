@@ -8,7 +8,7 @@ use Rattle.replay_input.specs.Gathering.{longest, fresh, buffer_all}
 use Rattle.text_hexadecimal.specs.OctetLaws.{octets_most, octets_first}
 use Rattle.text_hexadecimal.specs.Octets.{octets_of}
 use Rattle.replay_commands.specs.Commands.{kept}
-use Rattle.replay_commands.specs.Whole.{counted, counted_least, line_stored}
+use Rattle.replay_commands.proofs.Whole.{counted, counted_least, line_stored}
 
 take_behind : (list : List ℕ) (at n : ℕ) → at ≤ length list → take n (drop at list) ≡ drop at (take (at + n) list)
 take_behind list at n h = sym (ap (drop at) (take-add at n list) ∙ drop_at (take at list) (take n (drop at list)) at (length-take-le at list h))

@@ -1,0 +1,3 @@
+-- What is proved of the definitions, and laws that proofs cite.
+pub mod Begun
+pub mod Heard
