@@ -1,5 +1,5 @@
 import os,re,collections
-CR="settling station message_rules refusals misses frame_round_trip message_refusals ring message_ring ticking_quiet text_feeding settle_run settle_counts frame_refusals low_parts boundary_places boundary_waiting boundary_watch message message_frames message_places text_reading text_scanning replay_words settle_rest decode_line replay_commands replay_performing".split()
+CR="settling station message_rules refusals misses frame_round_trip message_refusals ring message_ring ticking_quiet text_feeding settle_run settle_counts frame_refusals low_parts boundary_places boundary_waiting boundary_watch message message_frames message_places text_reading text_scanning replay_words settle_rest decode_line replay_commands replay_performing delivered".split()
 def read(p): return open(p).read()
 def names_in(p):
     s=set()

@@ -1,6 +1,5 @@
 -- The definitions: a station as C keeps it, and what the contracts of the exported calls say of it.
 pub mod Boxes
--- Theorems.
+-- What the theorems in proofs/ say: what a refused call leaves, and boxes that make a ring.
 pub mod Refusals
 pub mod Rings
-pub mod Frames

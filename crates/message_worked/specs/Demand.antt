@@ -46,6 +46,7 @@ at_2 = Memᴰ.tail (Memᴰ.head refl)
 each : (P : ℕ → Type 0) → P 1 → P 2 → (number : ℕ) → number ∈ numbers → P number
 each P a b number (Memᴰ.head e) = subst P (sym e) a
 each P a b number (Memᴰ.tail (Memᴰ.head e)) = subst P (sym e) b
+each P a b number (Memᴰ.tail (Memᴰ.tail x9)) = elim x9 [ ]
 
 -- Station 1 was handed the message before station 2 passed it the token: the message waits.
 abbrev pub boths : Boths

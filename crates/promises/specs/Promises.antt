@@ -18,9 +18,11 @@ use Rattle.cases.specs.Marked.{every, rules, holds, marked, marked_hold}
 use Rattle.decode_line.proofs.Heard.{line_heard}
 use Rattle.decode_line.specs.Line.{line_answer, pushed_all, buffer_all}
 use Rattle.delivered.specs.Boxes.{Box, station_at, Done}
-use Rattle.delivered.specs.Frames.{heard_frame, written_frame}
-use Rattle.delivered.specs.Refusals.{Kept, refused_kept}
-use Rattle.delivered.specs.Rings.{Boxes, stations_in, Runs, delivered_settles}
+use Rattle.delivered.proofs.Frames.{heard_frame, written_frame}
+use Rattle.delivered.specs.Refusals.{Kept}
+use Rattle.delivered.proofs.Refusals.{refused_kept}
+use Rattle.delivered.specs.Rings.{Boxes, stations_in, Runs}
+use Rattle.delivered.proofs.Rings.{delivered_settles}
 use Rattle.frame.specs.Codes.{code_number, is_token, is_cyclic}
 use Rattle.frame.specs.Octets.{octet_at}
 use Rattle.frame_refusals.specs.Refusals.{order}

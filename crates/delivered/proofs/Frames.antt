@@ -1,10 +1,10 @@
 -- What the answers of the exported calls tell of a frame is that of the frame. Assumes nothing.
 use Rattle.std.specs.Prelude.{◌≡◌}
-use Rattle.laws.specs.Usual.{refl, sym, ap, ◌∙◌, List, ℕ, arith, take}
+use Rattle.laws.specs.Usual.{refl, ap, ◌∙◌, List, ℕ, arith, take}
 use Rattle.boundary_answers.specs.Numbers.{no_frame}
 use Rattle.boundary_answers.specs.declared.Answer.{Answer}
 use Rattle.boundary_told.specs.Routes.{written_told_lem}
-use Rattle.boundary_told.specs.Told.{route_of, route_read, route_in, asked_told}
+use Rattle.boundary_told.specs.Told.{route_of, route_read, asked_told}
 use Rattle.frame_reading.specs.Reading.{read_of}
 use Rattle.station.proofs.Frames.FrameAccepted.{frame_asked}
 use Rattle.station.specs.Rules.Asking.{ask_of, due_fields}
