@@ -1,17 +1,13 @@
 -- A participant's tick that does not end its watch, on its core, and that it is the tick of its station. Assumes nothing.
 use Rattle.std.specs.Prelude.{◌≡◌, ◌&&◌, ◌+◌}
-use Rattle.laws.specs.Usual.{ap, ◌∙◌, Bool, true, not, eqb, leb}
-use Rattle.std.proofs.Common.{eqb-true}
-use Rattle.std.proofs.lemmas.Bool.{not-true}
-use Rattle.boundary_core.specs.Crossing.{station_of, core_of, is_in}
+use Rattle.laws.specs.Usual.{Bool, true, not, leb}
+use Rattle.boundary_core.specs.Crossing.{station_of, is_in}
 use Rattle.boundary_core.specs.declared.Core.{Core}
-use Rattle.laws.specs.Tests.{first, second}
 use Rattle.panel.specs.Panel.{ticked}
-use Rattle.station.specs.Rules.Ticking.{later, watch_time, watch_ends, tick_of}
+use Rattle.station.specs.Rules.Ticking.{later, watch_time, watch_ends}
 use Rattle.station.specs.Rules.Waits.{watch_ticks, longest_watch}
 use Rattle.station.specs.Types.{Milliseconds, Members}
 use Rattle.station.specs.declared.Phase.TheVariants.{Participating}
-use Rattle.station.specs.declared.Ticked.TheVariants.{Done}
 
 -- a participant whose next tick does not end its watch, which runs for a time
 abbrev pub is_quiet : Core → Milliseconds → Bool

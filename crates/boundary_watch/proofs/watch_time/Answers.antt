@@ -1,6 +1,6 @@
 -- `boundary_watch::watch_time` meets its contract.
 use Rattle.std.specs.Prelude.{◌||◌, ◌<◌}
-use Rattle.laws.specs.Usual.{sym, ap, ◌∙◌, cond, not, arith, eqb, rules}
+use Rattle.laws.specs.Usual.{sym, ap, ◌∙◌, cond, not, arith, eqb}
 use Rattle.boundary_lists.specs.Laws.{entry_in_lem}
 use Rattle.members.specs.declared.Entry.{Entry}
 use Rattle.station.specs.Rules.Waits.{counts_as}
