@@ -1,0 +1,5 @@
+-- `message_frames_heard::turned_off` meets its contract.
+use Rattle.message_frames_heard.proofs.turned_off.Goals as goal
+
+pub returns : goal.returns
+returns c = rw (c.is_off.ensures, c.phase_of.ensures, c.is_off-2.ensures, c.phase_of-2.ensures)
