@@ -15,7 +15,8 @@ use Rattle.text_hexadecimal.specs.declared.Hexadecimal.{Hexadecimal}
 use Rattle.text_hexadecimal.specs.declared.Hexadecimal.TheVariants.{Digit, Other}
 use Rattle.decode_line.specs.declared.Pending.{Pending}
 use Rattle.decode_line.specs.declared.Pending.TheVariants.{Nothing, Half, Bad}
-use Rattle.text_feeding.proofs.Lines.{parted, Meaning, replies_to, Meant, text_came}
+use Rattle.text_feeding.specs.Lines.{parted, Meaning, replies_to}
+use Rattle.text_feeding.proofs.Lines.{Meant, text_came}
 use Rattle.decode.specs.Capture.{Carried, carried, decode, answer_to_rest, output_of}
 use Rattle.decode.specs.Scanned.{pushed_both}
 use Rattle.decode_line.specs.declared.Answer.TheVariants as answers

@@ -6,6 +6,7 @@ use mathlib.Core.List.{head-eq_of_cons-eq, tail-eq_of_cons-eq}
 use Rattle.frame.specs.declared.Refusal.{Refusal}
 use Rattle.laws.specs.Tests.{first}
 use Rattle.message.specs.declared.Letter.{Letter}
+use Rattle.message_refusals.specs.Left.{both_stopped, SparedBoth, same, turned_off, LeftBoth}
 use Rattle.message_rules.proofs.Letters.LetterAccepted.{judged_unrefused}
 use Rattle.message_frames.specs.Frames.{letter_in}
 use Rattle.message_rules.specs.Rules.Again.{turned}
@@ -34,20 +35,6 @@ use Rattle.station.specs.Rules.Calls as base
 use Rattle.station.specs.Rules.Hearing as hearing
 use Rattle.station.specs.Rules.Starting as starting
 use Rattle.station.specs.declared.Heard.TheVariants as heard
-
--- what stop leaves of both parts
-abbrev pub both_stopped : Both → Both
-both_stopped both = record { ring = stopped both.ring; messages = no_messages }
-
--- nothing is altered, or number 6 came before we participate and left just what stop leaves
-pub data SparedBoth (before left : Both) (refusal : Refusal) : Type 0 where
-  same : left ≡ before → SparedBoth before left refusal
-  turned_off : refusal ≡ refusals.Taken → is_participating before.ring.phase ≡ false → left ≡ both_stopped before → SparedBoth before left refusal
-
--- what a refused call leaves
-pub record LeftBoth (both : Both) (call : Call) (refusal : Refusal) : Type 0 where
-  pub state : SparedBoth both (after both call) refusal
-  pub buffers : lent_after both call ≡ lent call
 
 one_verdict : {refusal : Refusal} → base.unrefused ≡ base.refused_by refusal → ⊥
 one_verdict e = let z : ◌≡◌ {A = ℕ} 0 1 = cc in omega arith

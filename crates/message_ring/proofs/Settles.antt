@@ -10,7 +10,8 @@ use Rattle.frame_reading.specs.Reading.{is_station, read_of}
 use Rattle.frame_reading.specs.declared.Read.TheVariants.{Frame}
 use Rattle.message_rules.proofs.Ring.Buffers.{read_frame}
 use Rattle.message_rules.proofs.Ring.RingPart.{letter_ring}
-use Rattle.message_refusals.proofs.Left.{SparedBoth, same, turned_off, refused_left_both}
+use Rattle.message_refusals.specs.Left.{SparedBoth, same, turned_off}
+use Rattle.message_refusals.proofs.Left.{refused_left_both}
 use Rattle.message_rules.proofs.Letters.LetterSent.{asks_letter}
 use Rattle.message_ring.proofs.Asked.{letter_handed, letter_gives}
 use Rattle.message_ring.proofs.Blocks.{block_gives, block_handed}

@@ -109,7 +109,7 @@ use Rattle.settle_views.specs.declared.Ring.{Ring}
 use Rattle.frame_writing.specs.Writing.{frame_of, fixed}
 use Rattle.block.specs.Cut as cut
 use Rattle.decode_line.specs.Gathering as decoded
-use Rattle.text_feeding.proofs.Lines as lines
+use Rattle.text_feeding.specs.Lines as lines
 use Rattle.frame_reading.specs.Reading as reading
 use Rattle.ticking_quiet.specs.Quiet as quiet
 use Rattle.replay_lines.specs.Output as replayed

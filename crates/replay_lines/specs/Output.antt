@@ -5,7 +5,8 @@ use Rattle.laws.specs.Usual.{refl, ap, ap₂, ◌∙◌, Bool, true, false, cond
 use Rattle.std.proofs.Common.{length-set, lt-ltb}
 use Rattle.replay_commands.specs.Commands.{command_of}
 use Rattle.text_scanning.specs.Scanning.{NoFeed}
-use Rattle.text_feeding.proofs.Lines.{parted, Meaning, after_all, replies_to, Meant, Came, text_came}
+use Rattle.text_feeding.specs.Lines.{parted, Meaning, after_all, replies_to}
+use Rattle.text_feeding.proofs.Lines.{Meant, Came, text_came}
 use Rattle.replay_input.specs.Gathering.{longest, fresh, pushed, pushed_all, buffer_all}
 use Rattle.replay_input.specs.declared.Line.{Line}
 use Rattle.replay_performing.proofs.Lines.{line_performed}

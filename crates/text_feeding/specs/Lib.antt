@@ -2,3 +2,4 @@
 pub mod Feeding
 pub mod Counts
 pub mod Cut
+pub mod Lines
