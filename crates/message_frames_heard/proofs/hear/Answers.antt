@@ -22,9 +22,6 @@ use Rattle.station.specs.declared.Phase.{Phase}
 use Rattle.message_frames_heard.specs.Heard.{messages_heard, read_in, cyclic_word, phase_after, forgotten, still_on}
 use Rattle.message_frames_heard.proofs.hear.Goals as goal
 
-pub shape_of-memory : goal.shape_of-memory
-shape_of-memory c = c.memory-1.given
-
 pub returns-then-turned_off : goal.returns-then-turned_off
 returns-then-turned_off c =
     let a = c.args in
