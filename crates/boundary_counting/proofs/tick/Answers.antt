@@ -1,5 +1,5 @@
 -- `boundary_counting::tick` meets its contract.
-use Rattle.laws.specs.Usual.{sym, ap, ◌∙◌}
+use Rattle.laws.specs.Usual.{sym, ap, ◌∙◌, rules}
 use borrow.Author.Tests.{ne_eqb}
 use Rattle.boundary_answers.specs.Numbers.{ticked_answer}
 use Rattle.boundary_calm.specs.Calm.{counted}
@@ -31,7 +31,7 @@ returns-then-core-eq-PARTICIPATING c = c.tick.ensures
 
 pub tick_startup-requires : goal.tick_startup-requires
 tick_startup-requires c =
-    let core = c.args.core in record { phase_value = c.if-core-eq-STARTUP.true; core_value = neither_second (is_quiet core c.watch_time-time.result) (is_waiting core) (sym c.counts.ensures ∙ c.if-counts.false) }
+    let core = c.args.core in record { phase_value = search rules; core_value = neither_second (is_quiet core c.watch_time-time.result) (is_waiting core) (sym c.counts.ensures ∙ c.if-counts.false) }
 
 pub tick_joining-requires : goal.tick_joining-requires
 tick_joining-requires c =
