@@ -16,7 +16,7 @@ use Rattle.message_hearing.proofs.hear.Goals as goal
 
 pub hear_letter-requires : goal.hear_letter-requires
 hear_letter-requires c =
-    with_header c.args.octets.now c.args.memory.now c.args.assembly.now (sym c.is_letter.ensures ∙ c.if-is_letter.true)
+    with_header c.args.octets.now c.args.memory.now c.args.assembly.now (search rules)
 
 pub returns-then-is_letter : goal.returns-then-is_letter
 returns-then-is_letter c =
