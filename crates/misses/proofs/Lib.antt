@@ -4,4 +4,5 @@ pub mod CoverThird
 pub mod EntryMoves
 pub mod ListMoves
 pub mod MissesTold
+pub mod WatchTime
 pub mod WatchTold

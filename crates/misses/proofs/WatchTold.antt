@@ -23,6 +23,7 @@ use Rattle.station.specs.Rules.Asking.{Asking}
 use Rattle.misses.specs.MissHistory.{is_unrefused, reads_as, hears}
 use Rattle.misses.specs.WatchHistory.{sends, restarts, milliseconds, ends_after, run_after, watch_run}
 use Rattle.misses.specs.WatchTold.{Runs, Told}
+use Rattle.misses.proofs.WatchTime.{same_time}
 use Rattle.station.proofs.Outcomes.AskCases as on_asking_told
 use Rattle.station.proofs.Outcomes.HearCases as on_hearing_told
 use Rattle.station.proofs.Outcomes.TickCases as on_tick_told
@@ -47,21 +48,6 @@ still station = record { run = by (participates station) }
         → station.elapsed.0 ≡ run_after (not inside || false) false (ends_after (milliseconds station) station.elapsed.0) station.elapsed.0
     by true e = refl
     by false e = absurd (false≢true e)
-
--- the watch runs for as long as the history says
-same_time : (station : Station) → (watch_time station).0 ≡ milliseconds station
-same_time station = by (holds station) (is_listed station.members station.view) (eqb listed 0) refl
-  where
-    listed : ℕ
-    listed = (entry_of station.members station.view).watch.0
-
-    by : (held is_listed_lem none : Bool) → eqb listed 0 ≡ none
-        → (cond (held || not is_listed_lem) station.own.watch (counts_as (entry_of station.members station.view).watch)).0
-        ≡ cond held station.own.watch.0 (cond is_listed_lem (cond none 1 listed) station.own.watch.0)
-    by true is_listed_lem none e = refl
-    by false true true e = omega (arith, eqb-true listed 0 e)
-    by false true false e = omega (arith, eqb-false listed 0 e)
-    by false false none e = refl
 
 -- a tick ends the watch where the history says
 same_end : (station : Station) → watch_ends station ≡ ends_after (milliseconds station) station.elapsed.0
