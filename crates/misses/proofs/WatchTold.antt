@@ -1,12 +1,10 @@
 -- What is proved of the definitions in specs/WatchTold.antt.
 use Rattle.std.specs.Prelude.{◌≡◌, ◌&&◌, ◌||◌, ◌∷◌, ◌+◌, ◌*◌}
-use Rattle.laws.specs.Usual.{[], refl, sym, ap, ◌∙◌, Bool, true, false, cond, not, false≢true, List, ℕ, arith, eqb, leb}
-use Rattle.std.proofs.Common.{add-one, eqb-true, leb-false}
-use Rattle.std.proofs.lemmas.Bool.{eqb-false}
+use Rattle.laws.specs.Usual.{[], refl, sym, ap, ◌∙◌, Bool, true, false, not, false≢true, List, ℕ, arith, leb}
+use Rattle.std.proofs.Common.{add-one, leb-false}
 use Rattle.frame.specs.Codes.{is_cyclic}
 use Rattle.frame_reading.specs.Reading.{read_of}
 use Rattle.frame_round_trip.proofs.Accepted.{reads}
-use Rattle.members.specs.Members.{entry_of, is_listed}
 use Rattle.station.specs.Rules.Calls.{Call, start, stop, tick, hear, ask, after, heard_verdict, asked_verdict}
 use Rattle.station.specs.Rules.Hearing.{Hearing}
 use Rattle.station.specs.Panel.History.{Step, step_of, steps_on, history, state_after, participates, is_tick}
@@ -14,10 +12,9 @@ use Rattle.station.proofs.States.KeepsTicking.{watch_within}
 use Rattle.station.proofs.States.Sound.{kept, sound}
 use Rattle.station.specs.States.Reachable.{unstarted, Sound}
 use Rattle.station.specs.States.Reached.{AllTyped}
-use Rattle.station.specs.Rules.State.{never, holds}
+use Rattle.station.specs.Rules.State.{never}
 use Rattle.station.proofs.Outcomes.SwitchCases.{switched_to, start_cases, stop_cases}
-use Rattle.station.specs.Rules.Ticking.{watch_time, watch_of, watch_ends, Ticking}
-use Rattle.station.specs.Rules.Waits.{counts_as}
+use Rattle.station.specs.Rules.Ticking.{watch_of, watch_ends, Ticking}
 use Rattle.station.specs.declared.Station.{Station}
 use Rattle.station.specs.Rules.Asking.{Asking}
 use Rattle.misses.specs.MissHistory.{is_unrefused, reads_as, hears}

@@ -7,5 +7,6 @@ pub mod Lists
 pub mod Member
 pub mod Settles
 pub mod Steps
+pub mod StrayEvents
 pub mod Strays
 pub mod Ticks

@@ -15,7 +15,7 @@ use Rattle.ring.specs.Counts.{ring_counting, Does}
 use Rattle.ring.specs.Demand.{RingSettles}
 use Rattle.ring.specs.Events.{Stations, Event, asked, ticked, stray, after_event, AllName, CanCome}
 use Rattle.ring.proofs.Steps.{Ok}
-use Rattle.ring.proofs.Strays.{stray_ok, stray_does}
+use Rattle.ring.proofs.StrayEvents.{stray_ok, stray_does}
 use Rattle.ring.proofs.Ticks.{ticked_ok, ticked_does}
 
 -- a ring has a first number

@@ -32,17 +32,17 @@ use Rattle.station.proofs.Outcomes.HearCases as on_hearing_told
 use Rattle.station.specs.Outcomes.HearCases as on_hearing
 
 module _ {numbers : List ℕ} {number : ℕ} {station : Station} (in_ring : InRing numbers number station) where
-  unchanged : Kept numbers number station station
+  pub unchanged : Kept numbers number station station
   unchanged = record { in_ring = in_ring; view = refl; own = refl; elapsed = refl }
 
-  unchanged_if : {left : Station} → left ≡ station → Kept numbers number station left
+  pub unchanged_if : {left : Station} → left ≡ station → Kept numbers number station left
   unchanged_if e = subst (Kept numbers number station) (sym e) unchanged
 
   inside : is_participating station.phase ≡ true
   inside = ap is_participating in_ring.participates
 
   -- a refused call alters nothing of a participant
-  refused_kept : (call : Call) (refusal : _) → verdict station call ≡ refused_by refusal → Kept numbers number station (after station call)
+  pub refused_kept : (call : Call) (refusal : _) → verdict station call ≡ refused_by refusal → Kept numbers number station (after station call)
   refused_kept call refusal e = by (refused_left station call refusal e).state
     where
       by : Spared station (after station call) refusal → Kept numbers number station (after station call)
@@ -50,7 +50,7 @@ module _ {numbers : List ℕ} {number : ℕ} {station : Station} (in_ring : InRi
       by (turned_off six out d) = absurd (false≢true (sym out ∙ inside))
 
   -- a start is refused
-  start_kept : (settings : _) → after station (start settings) ≡ station
+  pub start_kept : (settings : _) → after station (start settings) ≡ station
   start_kept settings = rw in_ring.participates
 
   -- a request of another station of the ring, with the one watch time, replaces its entry
@@ -74,7 +74,7 @@ module _ {numbers : List ℕ} {number : ℕ} {station : Station} (in_ring : InRi
   }
 
   -- a trigger, or a request of a station of the ring
-  frame_kept : {octets memory assembly : List ℕ} {result : Hearing} (frame : Fields) → read_of octets ≡ Frame frame → is_cyclic frame.code ≡ false →
+  pub frame_kept : {octets memory assembly : List ℕ} {result : Hearing} (frame : Fields) → read_of octets ≡ Frame frame → is_cyclic frame.code ≡ false →
       (frame.code ≡ Request → (frame.source ∈ numbers) × ((counts_as frame.watch).0 ≡ station.own.watch.0)) → on_hearing.HearCases station octets memory assembly result →
       Kept numbers number station result.station
   frame_kept frame read plain from (on_hearing.refuses refusal) = unchanged
@@ -95,37 +95,3 @@ module _ {numbers : List ℕ} {number : ℕ} {station : Station} (in_ring : InRi
           let alike : other ≡ frame = cc in
           let among = from (ap (λ (f : Fields). f.code) (sym alike) ∙ c) in
           request_kept other (rw alike among.0) (rw alike among.1) (λ d. eqb-false _ _ (on_hearing_told.other_of facts (on_hearing_told.lists_on e)) (d ∙ sym in_ring.own))
-
-  pub stray_kept : {call : Call} → Stray numbers station call → Kept numbers number station (after station call)
-  stray_kept (refused {call} refusal e) = refused_kept call refusal e
-  stray_kept (starts settings) = unchanged_if (start_kept settings)
-  stray_kept (harmless octets memory assembly fields read plain from) =
-      frame_kept fields read plain from (on_hearing_told.hear_cases station octets memory assembly)
-
-module _ (numbers : List ℕ) (stations : Stations) (ok : Ok numbers stations) (who : ℕ) (call : Call) (can : CanCome numbers stations (stray who call)) where
-  left_of : (n : ℕ) → n ∈ numbers → Kept numbers n (stations n) (after_event stations (stray who call) n)
-  left_of n m = by (ℕ_discrete n who)
-    where
-      by : Dec (n ≡ who) → Kept numbers n (stations n) (after_event stations (stray who call) n)
-      by (yes e) =
-          let here : after_event stations (stray who call) who ≡ after (stations who) call = rw (eq-eqb who who refl) in
-          subst (λ (k : ℕ). Kept numbers k (stations k) (after_event stations (stray who call) k)) (sym e)
-          (subst (Kept numbers who (stations who)) (sym here) (stray_kept (ok.each who can.0) can.1))
-      by (no e) =
-          let there : after_event stations (stray who call) n ≡ stations n = rw (ne_eqb n who e) in
-          subst (Kept numbers n (stations n)) (sym there) (unchanged (ok.each n m))
-
-  brought_on : (n : ℕ) → n ∈ numbers → (test : Bool) → Brought (cond test (after (stations who) call) (stations n))
-  brought_on n m true = brought_more (ok.brought who can.0) call
-  brought_on n m false = ok.brought n m
-
-  pub stray_ok : Ok numbers (after_event stations (stray who call))
-  stray_ok = record {
-    each = λ n m. (left_of n m).in_ring;
-    watch = λ n k p q. ap (λ own. own.watch.0) (left_of n p).own ∙ ok.watch n k p q ∙ sym (ap (λ own. own.watch.0) (left_of k q).own);
-    elapsed = λ n k p q. ap (λ t. t.0) (left_of n p).elapsed ∙ ok.elapsed n k p q ∙ sym (ap (λ t. t.0) (left_of k q).elapsed);
-    brought = λ n m. brought_on n m (eqb n who);
-  }
-
-  pub stray_does : Does numbers stations (stray who call)
-  stray_does = nothing refl (λ n m. refl) (λ n m. (left_of n m).view)
