@@ -89,6 +89,11 @@ module _ {numbers : List ℕ} (ascending : Ascending numbers) (are_stations : (n
           at (yes e) = rw (eq-eqb n who e, rings_of) (ap (λ (a : Asking). a.both.ring) is ∙ own ∙ ap station (sym e))
           at (no e) = rw (ne_eqb n who e, rings_of) (ap (λ (a : Asking). (handed (boths n) (lent n) a.answer a.output).ring) is ∙ others n m e)
 
+      -- whom it gives the token
+      gives_asked : {result : Asking} → ask_of (boths who) memory turn output mail ≡ result
+          → gives boths event ≡ base_counts.given_by result.answer result.output
+      gives_asked is = rw is
+
       module _ (now : goes (boths who).ring (boths who).messages ≡ true) where
         letter_left : (n : ℕ) → n ∈ numbers → rings_of (after_event boths event) n ≡ rings_of boths n
         letter_left =
@@ -98,7 +103,8 @@ module _ {numbers : List ℕ} (ascending : Ascending numbers) (are_stations : (n
         letter_does : Does both_counting numbers boths event
         letter_does =
             nothing
-            (letter_gives (boths who) memory turn output mail can.1 can.2 now (lent who).memory (lent who).assembly (can.3 who can.0))
+            (gives_asked refl
+            ∙ letter_gives (boths who) memory turn output mail can.1 can.2 now (lent who).memory (lent who).assembly (can.3 who can.0))
             (λ n m. refl) (λ n m. ap (λ (s : Station). s.view) (letter_left n m))
 
       module _ (other : goes (boths who).ring (boths who).messages ≡ false) where
@@ -121,7 +127,7 @@ module _ {numbers : List ℕ} (ascending : Ascending numbers) (are_stations : (n
         block_does : Does both_counting numbers boths event
         block_does =
             does_same boths event plain refl
-            (ap (λ (a : Asking). base_counts.given_by a.answer a.output) asks_block
+            (gives_asked asks_block
             ∙ block_gives numbers next_in_lem are_stations who can.0 (boths who) (ok.each who can.0) memory turn output can.1)
             (λ n. refl) block_left (does ascending are_stations (rings_of boths) plain ok can_plain)
 
