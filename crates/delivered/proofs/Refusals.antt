@@ -59,11 +59,16 @@ asked_told_lem : (output : List ℕ) (answer : Asked) → (asked_told output ans
 asked_told_lem output (asked.Octets count) e = other_word e (omega arith)
 asked_told_lem output (asked.Refused refusal) e = record { refusal = refusal; number = refl; refused = refl }
 
+hear_told : (station : Station) (octets memory assembly : List ℕ) {answer : Heard} → (hear_of station octets memory assembly).answer ≡ answer
+    → (answer_of station (hear octets memory assembly)).word ≡ 4
+    → Told (verdict station (hear octets memory assembly)) (answer_of station (hear octets memory assembly))
+hear_told station octets memory assembly {answer} is = rw is (heard_told_lem octets answer)
+
 pub told : (station : Station) (call : Call) → (answer_of station call).word ≡ 4 → Told (verdict station call) (answer_of station call)
 told station (start settings) = switched_told (start_of station settings).answer
 told station stop = switched_told (stop_of station).answer
 told station tick = ticked_told (tick_of station).answer
-told station (hear octets memory assembly) = heard_told_lem octets (hear_of station octets memory assembly).answer
+told station (hear octets memory assembly) = hear_told station octets memory assembly refl
 told station (ask memory turn output) = asked_told_lem (ask_of station memory turn output).output (ask_of station memory turn output).answer
 
 -- A refused call leaves every lent buffer and every octet of the state as they were, but for number 6 before we participate.
