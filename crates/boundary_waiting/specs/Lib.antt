@@ -1,2 +1,2 @@
--- The ticks that only count, before we participate, and what is proved of them.
+-- The ticks that only count, before we participate.
 pub mod Waiting

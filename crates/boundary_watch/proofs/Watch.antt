@@ -1,6 +1,6 @@
--- What is proved of the definitions in specs/Watch.antt.
+-- A participant's tick that does not end its watch is the tick of its station. Assumes nothing.
 use Rattle.std.specs.Prelude.{◌≡◌}
-use Rattle.laws.specs.Usual.{ap, ◌∙◌, true, not, eqb}
+use Rattle.laws.specs.Usual.{ap, ◌∙◌, Bool, true, not, eqb}
 use Rattle.std.proofs.Common.{eqb-true}
 use Rattle.std.proofs.lemmas.Bool.{not-true}
 use Rattle.boundary_core.specs.Crossing.{station_of, core_of}
@@ -12,11 +12,14 @@ use Rattle.station.specs.declared.Ticked.TheVariants.{Done}
 use Rattle.boundary_watch.specs.Watch.{is_quiet, quiet_after}
 
 module _ (core : Core) (members : Members) (quiet : is_quiet core (watch_time (station_of core members)) ≡ true) where
+  abbrev ends : Bool
+  ends = watch_ends (station_of core members)
+
   four : core.phase ≡ 4
-  four = eqb-true core.phase 4 (first (eqb core.phase 4) (not (watch_ends (station_of core members))) quiet)
+  four = eqb-true core.phase 4 (first (eqb core.phase 4) (not ends) quiet)
 
   pub quiet_tick : tick_of (station_of core members) ≡ record { station = station_of (quiet_after core) members; answer = Done }
-  quiet_tick = rw (four, not-true (watch_ends (station_of core members)) (second (eqb core.phase 4) (not (watch_ends (station_of core members))) quiet))
+  quiet_tick = rw (four, not-true ends (second (eqb core.phase 4) (not ends) quiet))
 
   pub quiet_core : core_of (tick_of (station_of core members)).station ≡ quiet_after core
   quiet_core = ap (λ t. core_of t.station) quiet_tick ∙ rw four

@@ -1,12 +1,12 @@
--- A participant's tick that does not end its watch, on its core, and that it is the tick of its station. Assumes nothing.
-use Rattle.std.specs.Prelude.{◌≡◌, ◌&&◌, ◌+◌}
-use Rattle.laws.specs.Usual.{Bool, true, not, leb}
-use Rattle.boundary_core.specs.Crossing.{station_of, is_in}
+-- A participant's tick that does not end its watch, on its core.
+use Rattle.std.specs.Prelude.{◌&&◌, ◌+◌}
+use Rattle.laws.specs.Usual.{Bool, not, leb}
+use Rattle.boundary_core.specs.Crossing.{is_in}
 use Rattle.boundary_core.specs.declared.Core.{Core}
 use Rattle.panel.specs.Panel.{ticked}
-use Rattle.station.specs.Rules.Ticking.{later, watch_time, watch_ends}
+use Rattle.station.specs.Rules.Ticking.{later}
 use Rattle.station.specs.Rules.Waits.{watch_ticks, longest_watch}
-use Rattle.station.specs.Types.{Milliseconds, Members}
+use Rattle.station.specs.Types.{Milliseconds}
 use Rattle.station.specs.declared.Phase.TheVariants.{Participating}
 
 -- a participant whose next tick does not end its watch, which runs for a time
@@ -27,7 +27,3 @@ quiet_after core = record {
   gathering = core.gathering;
   panel = ticked core.panel;
 }
-
-module _ (core : Core) (members : Members) (quiet : is_quiet core (watch_time (station_of core members)) ≡ true) where
-  abbrev pub ends : Bool
-  ends = watch_ends (station_of core members)

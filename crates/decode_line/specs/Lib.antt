@@ -1,5 +1,3 @@
--- The definitions of this crate, and what is proved of them.
+-- The definitions of this crate.
 pub mod Gathering
 pub mod Line
-
--- Theorems.

@@ -59,6 +59,7 @@ asked_told_lem : (output : List ℕ) (answer : Asked) → (asked_told output ans
 asked_told_lem output (asked.Octets count) e = other_word e (omega arith)
 asked_told_lem output (asked.Refused refusal) e = record { refusal = refusal; number = refl; refused = refl }
 
+-- what is told of a hearing
 hear_told : (station : Station) (octets memory assembly : List ℕ) {answer : Heard} → (hear_of station octets memory assembly).answer ≡ answer
     → (answer_of station (hear octets memory assembly)).word ≡ 4
     → Told (verdict station (hear octets memory assembly)) (answer_of station (hear octets memory assembly))

@@ -1,4 +1,2 @@
 -- Definitions.
 pub mod Parts
-
--- Theorems.

@@ -2,5 +2,3 @@
 pub mod Outgoing
 pub mod Owed
 pub mod Places
-
--- Theorems.

@@ -1,4 +1,2 @@
--- What a command does, and what is proved of it.
+-- What a command does.
 pub mod Replaying
-
--- Theorems.

@@ -1,35 +1,20 @@
 -- What comes to a station from outside its ring leaves the ring in order, and does nothing that is counted. Assumes nothing.
 use Rattle.std.specs.Prelude.{◌≡◌}
-use Rattle.laws.specs.Usual.{refl, sym, ap, subst, ◌∙◌, Bool, true, false, cond, false≢true, List, ℕ, eqb}
+use Rattle.laws.specs.Usual.{refl, sym, ap, subst, ◌∙◌, Bool, true, false, cond, List, ℕ, eqb}
 use Rattle.std.proofs.Math.Decide.{ℕ_discrete}
 use Rattle.std.proofs.Common.{eq-eqb, ne_eqb}
-use Rattle.std.proofs.lemmas.Bool.{eqb-false}
-use Rattle.frame.specs.Codes.{is_cyclic}
-use Rattle.frame.specs.declared.Code.TheVariants.{Request}
 use Rattle.misses.proofs.CoverThird.{brought_more}
 use Rattle.misses.specs.MissHistory.{Brought}
-use Rattle.frame_reading.specs.Reading.{read_of}
-use Rattle.frame_round_trip.proofs.Accepted.{reads}
 use Rattle.settling.specs.Counting.{nothing}
 use Rattle.settling.specs.Ring.{◌∈◌}
-use Rattle.station.specs.Rules.Calls.{Call, start, after, refused_by, verdict}
-use Rattle.station.specs.Rules.Hearing.{Hearing, requested}
-use Rattle.station.proofs.RefusedLeft.{refused_left}
-use Rattle.station.specs.RefusedLeft.{Spared, same, turned_off}
-use Rattle.station.specs.Rules.State.{is_participating}
-use Rattle.station.proofs.States.ListKept.{set_either}
-use Rattle.station.specs.Rules.Waits.{counts_as}
-use Rattle.station.specs.Types.{Entry, Fields, Frame}
+use Rattle.station.specs.Rules.Calls.{Call, after}
 use Rattle.station.specs.declared.Station.{Station}
 use Rattle.ring.specs.Counts.{Does}
 use Rattle.ring.specs.Events.{Stations, stray, after_event, Stray, refused, starts, harmless, CanCome}
-use Rattle.ring.proofs.Lists.{ring_kept}
 use Rattle.ring.specs.Member.{InRing}
-use Rattle.ring.proofs.Member.{listed}
 use Rattle.ring.proofs.Steps.{Ok}
 use Rattle.ring.specs.Strays.{Kept}
 use Rattle.station.proofs.Outcomes.HearCases as on_hearing_told
-use Rattle.station.specs.Outcomes.HearCases as on_hearing
 use Rattle.ring.proofs.Strays.{unchanged, unchanged_if, refused_kept, start_kept, frame_kept}
 
 module _ {numbers : List ℕ} {number : ℕ} {station : Station} (in_ring : InRing numbers number station) where

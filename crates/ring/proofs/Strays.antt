@@ -1,16 +1,11 @@
 -- What is proved of the definitions in specs/Strays.antt.
 use Rattle.std.specs.Prelude.{◌≡◌}
-use Rattle.laws.specs.Usual.{refl, sym, ap, subst, ◌∙◌, Bool, true, false, cond, false≢true, List, ℕ, eqb}
-use Rattle.std.proofs.Math.Decide.{ℕ_discrete}
-use Rattle.std.proofs.Common.{eq-eqb, ne_eqb}
+use Rattle.laws.specs.Usual.{refl, sym, ap, subst, ◌∙◌, true, false, false≢true, List, ℕ}
 use Rattle.std.proofs.lemmas.Bool.{eqb-false}
 use Rattle.frame.specs.Codes.{is_cyclic}
 use Rattle.frame.specs.declared.Code.TheVariants.{Request}
-use Rattle.misses.proofs.CoverThird.{brought_more}
-use Rattle.misses.specs.MissHistory.{Brought}
 use Rattle.frame_reading.specs.Reading.{read_of}
 use Rattle.frame_round_trip.proofs.Accepted.{reads}
-use Rattle.settling.specs.Counting.{nothing}
 use Rattle.settling.specs.Ring.{◌∈◌}
 use Rattle.station.specs.Rules.Calls.{Call, start, after, refused_by, verdict}
 use Rattle.station.specs.Rules.Hearing.{Hearing, requested}
@@ -21,12 +16,9 @@ use Rattle.station.proofs.States.ListKept.{set_either}
 use Rattle.station.specs.Rules.Waits.{counts_as}
 use Rattle.station.specs.Types.{Entry, Fields, Frame}
 use Rattle.station.specs.declared.Station.{Station}
-use Rattle.ring.specs.Counts.{Does}
-use Rattle.ring.specs.Events.{Stations, stray, after_event, Stray, refused, starts, harmless, CanCome}
 use Rattle.ring.proofs.Lists.{ring_kept}
 use Rattle.ring.specs.Member.{InRing}
 use Rattle.ring.proofs.Member.{listed}
-use Rattle.ring.proofs.Steps.{Ok}
 use Rattle.ring.specs.Strays.{Kept}
 use Rattle.station.proofs.Outcomes.HearCases as on_hearing_told
 use Rattle.station.specs.Outcomes.HearCases as on_hearing

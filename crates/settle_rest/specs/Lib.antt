@@ -1,5 +1,3 @@
--- The definitions of this crate, and what is proved of them.
+-- The definitions of this crate.
 pub mod Whole
 pub mod Rest
-
--- Theorems.

@@ -1,6 +1,4 @@
--- The definitions of this crate, and what is proved of them.
+-- The definitions of this crate.
 pub mod Values
 pub mod Marks
 pub mod Parts
-
--- Theorems.

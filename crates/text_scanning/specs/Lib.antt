@@ -1,4 +1,2 @@
--- The definitions of this crate, and what is proved of them.
+-- The definitions of this crate.
 pub mod Scanning
-
--- Theorems.
