@@ -2,16 +2,16 @@
 #![tactic(auto)]
 
 ghost use Rattle.std.specs.Prelude.{◌≡◌};
-ghost use Rattle.area.specs.Areas.{extent_of, place_of, in_area, in_range, span_of};
+ghost use Rattle.area.specs.Areas.{extent_of, in_area, in_range, span_of};
 
-#[derive(Clone, Copy)]
+#[derive(Clone, Copy, PartialEq, Eq)]
 pub enum Area {
     One,
     Two,
 }
 
 // An area's number of words, and the octet of the common memory at which it starts.
-#[derive(Clone, Copy)]
+#[derive(Clone, Copy, PartialEq, Eq)]
 pub struct Extent {
     pub words: usize,
     pub start: usize,
@@ -19,14 +19,14 @@ pub struct Extent {
 
 // What a station has of one area, in words.
 #[repr(C)]
-#[derive(Clone, Copy)]
+#[derive(Clone, Copy, PartialEq, Eq, Default)]
 pub struct Part {
     pub address: u16,
     pub size: u16,
 }
 
 #[repr(C)]
-#[derive(Clone, Copy)]
+#[derive(Clone, Copy, PartialEq, Eq, Default)]
 pub struct Areas {
     pub one: Part,
     pub two: Part,
@@ -36,7 +36,7 @@ pub struct Areas {
 pub const MEMORY_OCTETS: usize = 17408;
 
 // A run of octets of the common memory.
-#[derive(Clone, Copy)]
+#[derive(Clone, Copy, PartialEq, Eq)]
 pub struct Span {
     pub start: usize,
     pub length: usize,
@@ -54,33 +54,23 @@ const EXTENTS: [Extent; 2] = [
     },
 ];
 
-fn place(area: Area) -> usize
-    ensures { result ≡ place_of area }
-{
-    match area {
-        Area::One => 0,
-        Area::Two => 1,
-    }
-}
-
 pub fn extent_of(area: Area) -> Extent
     ensures { result ≡ extent_of area }
 {
-    let at = place(area);
-    EXTENTS[at]
+    EXTENTS[area as usize]
 }
 
 pub fn in_area(area: Area, part: Part) -> bool
     ensures { result ≡ in_area area part }
 {
     let extent = extent_of(area);
-    part.address as usize + part.size as usize <= extent.words
+    usize::from(part.address) + usize::from(part.size) <= extent.words
 }
 
 pub fn in_range(areas: Areas) -> bool
     ensures { result ≡ in_range areas }
 {
-    in_area(Area::One, areas.one) & in_area(Area::Two, areas.two)
+    in_area(Area::One, areas.one) && in_area(Area::Two, areas.two)
 }
 
 pub fn span_of(area: Area, part: Part) -> Span
@@ -88,7 +78,7 @@ pub fn span_of(area: Area, part: Part) -> Span
 {
     let extent = extent_of(area);
     Span {
-        start: extent.start + 2 * part.address as usize,
-        length: 2 * part.size as usize,
+        start: extent.start + 2 * usize::from(part.address),
+        length: 2 * usize::from(part.size),
     }
 }

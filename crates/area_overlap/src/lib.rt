@@ -10,8 +10,8 @@ pub fn parts_overlap(a: Part, b: Part) -> bool
     ensures { result ≡ parts_overlap a b }
 {
     let filled = (0 < a.size) & (0 < b.size);
-    let before = (a.address as usize) < b.address as usize + b.size as usize;
-    let after = (b.address as usize) < a.address as usize + a.size as usize;
+    let before = usize::from(a.address) < usize::from(b.address) + usize::from(b.size);
+    let after = usize::from(b.address) < usize::from(a.address) + usize::from(a.size);
     filled & (before & after)
 }
 

@@ -1,4 +1,5 @@
 // The low part of a number of 32 bits: an octet, two octets or a flag, read and put there. What stands above it is left as it is.
+// Three pairs, and no function over the base: it would owe that the base divides 2 to the 32nd and that the part is below it, which the types say here.
 #![tactic(auto)]
 
 ghost use Rattle.std.specs.Prelude.{◌≡◌};

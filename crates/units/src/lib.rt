@@ -6,27 +6,31 @@ ghost use Rattle.units.specs.Time.{as_wait, in_ticks};
 
 // A number of ticks of 100 microseconds.
 #[repr(C)]
-#[derive(Clone, Copy)]
+#[derive(Clone, Copy, PartialEq, Eq, PartialOrd, Ord, Default)]
 pub struct Ticks(pub u32);
 
 // A number of milliseconds: a watch time, as wide as its field of a frame.
 #[repr(C)]
-#[derive(Clone, Copy)]
+#[derive(Clone, Copy, PartialEq, Eq, Default)]
 pub struct Milliseconds(pub u8);
 
 // A number of milliseconds that can be greater than any watch time: a wait.
 #[derive(Clone, Copy)]
 pub struct Wait(pub u16);
 
-pub fn as_wait(watch: Milliseconds) -> Wait
-    ensures { result.0 ≡ (as_wait watch).0 }
-{
-    Wait(watch.0 as u16)
+impl From<Milliseconds> for Wait {
+    ghost from_gives = { λ watch wait. wait.0 ≡ (as_wait watch).0 };
+
+    fn from(watch: Milliseconds) -> Wait {
+        Wait(u16::from(watch.0))
+    }
 }
 
 // "10 ticks each": the only way from milliseconds to ticks.
-pub fn in_ticks(wait: Wait) -> Ticks
-    ensures { result.0 ≡ (in_ticks wait).0 }
-{
-    Ticks(wait.0 as u32 * 10)
+impl From<Wait> for Ticks {
+    ghost from_gives = { λ wait ticks. ticks.0 ≡ (in_ticks wait).0 };
+
+    fn from(wait: Wait) -> Ticks {
+        Ticks(u32::from(wait.0) * 10)
+    }
 }
