@@ -1,5 +1,5 @@
 -- Laws of lines. Assumes nothing.
-use Rattle.std.specs.Prelude.{◌≡◌, ◌∷◌, ◌++◌, ◌+◌, ◌*◌, ◌≤◌}
+use Rattle.std.specs.Prelude.{◌≡◌, ◌∷◌, ◌++◌, ◌*◌, ◌≤◌}
 use Rattle.laws.specs.Usual.{sym, ap, ◌∙◌, List, [], ℕ, arith, length}
 use Rattle.std.proofs.Common.{append_assoc, append-nil, length-append}
 use Rattle.text.specs.Decimal.{decimal_of}

@@ -39,10 +39,8 @@ fn put_numbers(numbers: &[u32], output: &mut [u8], at: usize) -> usize
     ensures output_after { output.new ≡ pasted output.old at (numbers_of numbers.now) }
 {
     let mut end = at;
-    let mut i = 0;
-    while i < numbers.len() {
-        end = put_number(numbers[i], output, end);
-        i += 1;
+    for &number in numbers {
+        end = put_number(number, output, end);
     }
     end
 }

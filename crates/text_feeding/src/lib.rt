@@ -39,6 +39,7 @@ pub fn read_full<R: Read>(reader: &mut R, buffer: &mut [u8]) -> (usize, io::Resu
     ensures whole { OnOk result.1 (result.0 < length buffer.new → IsAtEnd (R.remaining reader.new)) }
 {
     let mut done = 0;
+    // No `for`: how many octets come at a time the reading tells.
     while done < buffer.len() {
         match read_once(reader, &mut buffer[done..]) {
             Ok(0) => return (done, Ok(())),

@@ -1,13 +1,11 @@
 -- Laws of hexadecimal digits. Assumes nothing.
 use Rattle.laws.specs.Usual.{refl, sym, ap, ap₂, ◌∙◌, Bool, true, false, cond, List, [], ℕ, suc, arith, length, get_or, take, drop, eqb}
-use Rattle.std.specs.Prelude.{◌≡◌, ◌&&◌, ◌∷◌, ◌+◌, ◌*◌, ◌/◌, ◌%◌, ◌<◌, ◌≤◌, zero}
+use Rattle.std.specs.Prelude.{Option, Some, None, ◌≡◌, ◌&&◌, ◌∷◌, ◌+◌, ◌*◌, ◌/◌, ◌%◌, ◌<◌, ◌≤◌, zero}
 use Rattle.std.proofs.Common.{add-one, drop_of_length-le, drop-cons, take_all, length-take-le, eq-eqb}
 use Rattle.std.proofs.Math.Seq.{take-nil}
 use Rattle.laws.specs.Tests.{both, first}
 use Rattle.text_hexadecimal.specs.Digits.{Below, digit_below}
 use Rattle.text_hexadecimal.specs.Hexadecimal.{Spelled, octets, neither, joined, digit_of, spelled}
-use Rattle.text_hexadecimal.specs.declared.Hexadecimal.{Hexadecimal}
-use Rattle.text_hexadecimal.specs.declared.Hexadecimal.TheVariants.{Digit, Other}
 use Rattle.text_hexadecimal.specs.Octets.{octets_by, octets_of, is_digit_by, is_hexadecimal, value_by, value_of, octet_at, all_hexadecimal}
 
 -- digits, octet by octet
@@ -24,9 +22,9 @@ module _ (list : List ℕ) (i : ℕ) where
 pub value_below : (octet : ℕ) → value_of octet < 16
 value_below octet = by (digit_of octet) (digit_below octet)
   where
-    by : (digit : Hexadecimal) → Below digit → value_by digit < 16
-    by (Digit d) h = h
-    by Other h = omega arith
+    by : (digit : Option ℕ) → Below digit → value_by digit < 16
+    by (Some d) h = h
+    by None h = omega arith
 
 -- whether a number is even
 abbrev pub even : ℕ → Bool
@@ -53,13 +51,13 @@ spelled_by (digit ∷ []) = by (is_hexadecimal digit)
     by false = refl
 spelled_by (high ∷ low ∷ digits) = by (digit_of high) (digit_of low) (all_hexadecimal digits) (even (suc (suc (length digits)))) (spelled digits) (spelled_by digits ∙ rw (even_more (length digits)))
   where
-    by : (a b : Hexadecimal) (all : Bool) (right : Bool) (rest : Spelled) → rest ≡ cond (all && right) (octets (pairs digits)) neither →
+    by : (a b : Option ℕ) (all : Bool) (right : Bool) (rest : Spelled) → rest ≡ cond (all && right) (octets (pairs digits)) neither →
         joined a b rest ≡ cond ((is_digit_by a && (is_digit_by b && all)) && right) (octets ((value_by a * 16 + value_by b) ∷ pairs digits)) neither
-    by (Digit x) (Digit y) true true rest e = rw e
-    by (Digit x) (Digit y) true false rest e = rw e
-    by (Digit x) (Digit y) false right rest e = rw e
-    by (Digit x) Other all right rest e = refl
-    by Other b all right rest e = refl
+    by (Some x) (Some y) true true rest e = rw e
+    by (Some x) (Some y) true false rest e = rw e
+    by (Some x) (Some y) false right rest e = rw e
+    by (Some x) None all right rest e = refl
+    by None b all right rest e = refl
 
 octets_by_lem : (digits : List ℕ) → octets_of digits ≡ cond (proper digits) (pairs digits) []
 octets_by_lem digits = ap octets_by (spelled_by digits) ∙ by (proper digits)

@@ -1,9 +1,7 @@
 -- The octets that hexadecimal digits spell.
-use Rattle.std.specs.Prelude.{◌&&◌, ◌∷◌, ◌+◌, ◌*◌}
+use Rattle.std.specs.Prelude.{Option, Some, None, ◌&&◌, ◌∷◌, ◌+◌, ◌*◌}
 use Rattle.laws.specs.Usual.{Bool, true, false, List, [], ℕ, get_or}
 use Rattle.text_hexadecimal.specs.Hexadecimal.{Spelled, octets, neither, digit_of, spelled}
-use Rattle.text_hexadecimal.specs.declared.Hexadecimal.{Hexadecimal}
-use Rattle.text_hexadecimal.specs.declared.Hexadecimal.TheVariants.{Digit, Other}
 
 abbrev pub octets_by : Spelled → List ℕ
 octets_by (octets list) = list
@@ -14,16 +12,16 @@ abbrev pub octets_of : List ℕ → List ℕ
 octets_of digits = octets_by (spelled digits)
 
 -- whether an octet is a hexadecimal digit, and its value, or 0 where it is none
-abbrev pub is_digit_by : Hexadecimal → Bool
-is_digit_by (Digit digit) = true
-is_digit_by Other = false
+abbrev pub is_digit_by : Option ℕ → Bool
+is_digit_by (Some digit) = true
+is_digit_by None = false
 
 abbrev pub is_hexadecimal : ℕ → Bool
 is_hexadecimal octet = is_digit_by (digit_of octet)
 
-abbrev pub value_by : Hexadecimal → ℕ
-value_by (Digit digit) = digit
-value_by Other = 0
+abbrev pub value_by : Option ℕ → ℕ
+value_by (Some digit) = digit
+value_by None = 0
 
 abbrev pub value_of : ℕ → ℕ
 value_of octet = value_by (digit_of octet)

@@ -6,22 +6,15 @@ ghost use Rattle.laws.specs.Usual.{length, take};
 ghost use Rattle.copying.specs.Pasted.{pasted};
 ghost use Rattle.text_hexadecimal.specs.Octets.{all_hexadecimal, value_of, octet_at, octets_of};
 
-use text_hexadecimal::{Hexadecimal, digit_of, is_hexadecimal};
+use text_hexadecimal::{digit_of, is_hexadecimal};
 
 fn all_hexadecimal(octets: &[u8]) -> bool
     ensures { result ≡ all_hexadecimal octets.now }
 {
-    let mut i = 0;
-    while i < octets.len() {
-        if !is_hexadecimal(octets[i]) {
-            return false;
-        }
-        i += 1;
-    }
-    true
+    octets.iter().all(|&octet| is_hexadecimal(octet))
 }
 
-// How many octets the digits spell.
+// How many octets the digits spell. Digits that are no even number of hexadecimal digits spell none, so that the 0 is a count and no Option.
 pub fn size_of(digits: &[u8]) -> usize
     ensures { result ≡ length (octets_of digits.now) }
 {
@@ -36,10 +29,7 @@ pub fn size_of(digits: &[u8]) -> usize
 fn value_of(octet: u8) -> u8
     ensures { result ≡ value_of octet }
 {
-    match digit_of(octet) {
-        Hexadecimal::Digit(digit) => digit,
-        Hexadecimal::Other => 0,
-    }
+    digit_of(octet).unwrap_or(0)
 }
 
 // The octet that the pair of digits at a place spells, counted in pairs.
@@ -55,14 +45,9 @@ pub fn unspell(digits: &[u8], output: &mut [u8]) -> usize
     ensures value { result ≡ length (take (length output.old) (octets_of digits.now)) }
     ensures output_after { output.new ≡ pasted output.old 0 (take (length output.old) (octets_of digits.now)) }
 {
-    let size = size_of(digits);
-    let mut i = 0;
-    while i < size {
-        if output.len() <= i {
-            return i;
-        }
+    let size = size_of(digits).min(output.len());
+    for i in 0..size {
         output[i] = octet_at(digits, i);
-        i += 1;
     }
-    i
+    size
 }

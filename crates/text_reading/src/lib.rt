@@ -2,50 +2,31 @@
 #![tactic(auto)]
 
 ghost use Rattle.std.specs.Prelude.{◌≡◌};
-ghost use Rattle.text_reading.specs.Values.{is_digit, value_on, decimal_in};
-
-// The number that some octets are, or that they are none.
-#[derive(Clone, Copy)]
-pub enum Value {
-    Number(u32),
-    Nothing,
-}
-
-fn is_digit(octet: u8) -> bool
-    ensures { result ≡ is_digit octet }
-{
-    (b'0' <= octet) & (octet <= b'9')
-}
+ghost use Rattle.text_reading.specs.Values.{value_on, decimal_in};
 
 // The value of decimal digits, where it is at most `most`.
-fn value_of(octets: &[u8], most: u32) -> Value
+fn value_of(octets: &[u8], most: u32) -> Option<u32>
     ensures { result ≡ value_on most 0 octets.now }
 {
     let mut value: u64 = 0;
-    let mut i = 0;
-    while i < octets.len() {
-        let octet = octets[i];
-        if !is_digit(octet) {
-            return Value::Nothing;
+    for octet in octets {
+        if !octet.is_ascii_digit() {
+            return None;
         }
-        value = value * 10 + (octet as u64 - 48);
-        if (most as u64) < value {
-            return Value::Nothing;
+        value = value * 10 + u64::from(*octet - b'0');
+        if value > u64::from(most) {
+            return None;
         }
-        i += 1;
     }
-    Value::Number(value as u32)
+    Some(value as u32)
 }
 
 // The number that the octets are in decimal without leading zeros, where it is at most `most`.
-pub fn decimal_in(octets: &[u8], most: u32) -> Value
+pub fn decimal_in(octets: &[u8], most: u32) -> Option<u32>
     ensures { result ≡ decimal_in most octets.now }
 {
-    if octets.len() == 0 {
-        return Value::Nothing;
+    match octets {
+        [] | [b'0', _, ..] => None,
+        _ => value_of(octets, most),
     }
-    if (octets[0] == b'0') & (1 < octets.len()) {
-        return Value::Nothing;
-    }
-    value_of(octets, most)
 }

@@ -1,2 +1,3 @@
 -- The definitions of this crate.
 pub mod Scanning
+pub mod Made

@@ -1,6 +1,6 @@
 -- `text::put_line` meets its contract.
 use Rattle.std.specs.Prelude.{◌≡◌, ◌∷◌, ◌++◌, ◌+◌, ◌<◌}
-use Rattle.laws.specs.Usual.{sym, ap, ap₂, ◌∙◌, List, [], ℕ, arith, length, set, rules}
+use Rattle.laws.specs.Usual.{sym, ap, ap₂, ◌∙◌, List, [], ℕ, arith, length, set}
 use native.Mathlib.Nat.{zero-add}
 use lib.ListN.{length-append, length-set}
 use Rattle.copying.specs.Laws.{paste_append, paste_more}

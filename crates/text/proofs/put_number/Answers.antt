@@ -1,6 +1,6 @@
 -- `text::put_number` meets its contract.
 use Rattle.std.specs.Prelude.{◌∷◌, ◌+◌, ◌<◌}
-use Rattle.laws.specs.Usual.{ap, ◌∙◌, List, [], ℕ, arith, length, rules}
+use Rattle.laws.specs.Usual.{ap, ◌∙◌, List, [], ℕ, arith, length}
 use lib.ListN.{length-set}
 use Rattle.copying.specs.Laws.{paste_one, paste_append}
 use Rattle.copying.specs.Pasted.{pasted}

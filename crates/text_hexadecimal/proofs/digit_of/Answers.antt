@@ -1,5 +1,5 @@
 -- `text_hexadecimal::digit_of` meets its contract.
-use Rattle.laws.specs.Usual.{arith, rules}
+use Rattle.laws.specs.Usual.{arith}
 use borrow.Author.Tests.{le-leb, lt-leb}
 use Rattle.text_hexadecimal.proofs.digit_of.Goals as goal
 

@@ -1,6 +1,6 @@
 -- `text_octets::octet_at` meets its contract.
 use Rattle.std.specs.Prelude.{◌+◌, ◌*◌}
-use Rattle.laws.specs.Usual.{arith, get_or, rules}
+use Rattle.laws.specs.Usual.{arith, get_or}
 use Rattle.text_hexadecimal.specs.OctetLaws.{value_below}
 use Rattle.text_octets.proofs.octet_at.Goals as goal
 
