@@ -1,10 +1,9 @@
 -- Paper 01, "Frame fields used": "Codes handled (document 003, B-9): 65000 cyclic with token, 65001 cyclic without, 65002 participation
 -- request, 65012 trigger."
+use Rattle.std.specs.Prelude.{Option, Some, None}
 use Rattle.laws.specs.Usual.{Bool, true, false, cond, ℕ, eqb}
 use Rattle.frame.specs.declared.Code.{Code}
 use Rattle.frame.specs.declared.Code.TheVariants.{Token, Cyclic, Request, Trigger}
-use Rattle.frame.specs.declared.Coded.{Coded}
-use Rattle.frame.specs.declared.Coded.TheVariants.{Known, Unknown}
 
 -- the number of each code, TCD
 abbrev pub code_number : Code → ℕ
@@ -14,21 +13,21 @@ code_number Request = 65002
 code_number Trigger = 65012
 
 -- the code that a number stands for, if it is one of the four
-abbrev pub code_of : ℕ → Coded
+abbrev pub code_of : ℕ → Option Code
 code_of number =
-    cond (eqb number 65000) (Known Token)
-    (cond (eqb number 65001) (Known Cyclic)
-    (cond (eqb number 65002) (Known Request)
-    (cond (eqb number 65012) (Known Trigger) Unknown)))
+    cond (eqb number 65000) (Some Token)
+    (cond (eqb number 65001) (Some Cyclic)
+    (cond (eqb number 65002) (Some Request)
+    (cond (eqb number 65012) (Some Trigger) None)))
 
-abbrev pub is_known : Coded → Bool
-is_known (Known code) = true
-is_known Unknown = false
+abbrev pub is_known : Option Code → Bool
+is_known (Some code) = true
+is_known None = false
 
 -- the code, where there is one. (Of an unknown code nothing asks: it stands for a trigger then.)
-abbrev pub code_from : Coded → Code
-code_from (Known code) = code
-code_from Unknown = Trigger
+abbrev pub code_from : Option Code → Code
+code_from (Some code) = code
+code_from None = Trigger
 
 -- only 65000 passes the token
 abbrev pub is_token : Code → Bool

@@ -5,64 +5,57 @@ ghost use Rattle.std.specs.Prelude.{◌≡◌};
 ghost use Rattle.frame_reading.specs.Reading.{ranged, totalled, numbered, measured, read_body_of, read_of};
 
 use frame::{Fields, Refusal};
-use frame_reading::Read;
 
 fn is_ranged(fields: Fields) -> bool
     ensures { result ≡ ranged fields }
 {
-    let code = fields.code;
-    let areas = fields.areas;
-    !frame::carries_areas(code) | area::in_range(areas)
+    !frame::carries_areas(fields.code) || area::in_range(fields.areas)
 }
 
 fn is_totalled(fields: Fields) -> bool
     ensures { result ≡ totalled fields }
 {
-    let areas = fields.areas;
-    fields.blocks as usize == block::blocks(areas)
+    fields.blocks as usize == block::blocks(fields.areas)
 }
 
 fn is_numbered(fields: Fields) -> bool
     ensures { result ≡ numbered fields }
 {
-    (1 <= fields.block) & (fields.block <= fields.blocks)
+    1 <= fields.block && fields.block <= fields.blocks
 }
 
 fn is_measured(given: usize, fields: Fields) -> bool
     ensures { result ≡ measured given fields }
 {
-    let areas = fields.areas;
-    let size = fields.size as usize == block::block_length(areas, fields.block);
-    let header = frame_data::header_part(given, fields.size as usize);
-    size & ((64 <= header) & (header <= 96))
+    let size = fields.size as usize;
+    let header = frame_data::header_part(given, size);
+    size == block::block_length(fields.areas, fields.block) && matches!(header, 64..=96)
 }
 
 // Refusals 7, 14, 15 and 8, of a header that was read from so many octets.
-pub fn read_body(given: usize, fields: Fields) -> Read
+pub fn read_body(given: usize, fields: Fields) -> Result<Fields, Refusal>
     ensures { result ≡ read_body_of given fields }
 {
-    let code = fields.code;
-    let blockless = !frame::is_cyclic(code);
+    let cyclic = frame::is_cyclic(fields.code);
     if !is_ranged(fields) {
-        return Read::Refused(Refusal::Area);
+        return Err(Refusal::Area);
     }
-    if !(blockless | is_totalled(fields)) {
-        return Read::Refused(Refusal::Total);
+    if cyclic && !is_totalled(fields) {
+        return Err(Refusal::Total);
     }
-    if !(blockless | is_numbered(fields)) {
-        return Read::Refused(Refusal::Number);
+    if cyclic && !is_numbered(fields) {
+        return Err(Refusal::Number);
     }
-    if !(blockless | is_measured(given, fields)) {
-        return Read::Refused(Refusal::Block);
+    if cyclic && !is_measured(given, fields) {
+        return Err(Refusal::Block);
     }
-    Read::Frame(fields)
+    Ok(fields)
 }
 
-pub fn read_frame(s: &[u8]) -> Read
+#[tactic(auto, unfolding(frame_reading::specs::Reading::read_of))]
+pub fn read_frame(s: &[u8]) -> Result<Fields, Refusal>
     ensures { result ≡ read_of s.now }
 {
-    match frame_reading::read_header(s) {
-        Read::Frame(fields) => read_body(s.len(), fields),
-        Read::Refused(refusal) => Read::Refused(refusal),
-    }
+    let header = frame_reading::read_header(s)?;
+    read_body(s.len(), header)
 }

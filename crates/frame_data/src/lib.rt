@@ -10,14 +10,13 @@ use frame::Fields;
 pub fn header_part(given: usize, size: usize) -> usize
     ensures { result ≡ given - size }
 {
-    if given < size { 0 } else { given - size }
+    given.saturating_sub(size)
 }
 
 pub fn data_size(fields: Fields) -> usize
     ensures { result ≡ data_size fields }
 {
-    let code = fields.code;
-    if frame::is_cyclic(code) {
+    if frame::is_cyclic(fields.code) {
         fields.size as usize
     } else {
         0

@@ -1,5 +1,5 @@
 -- Paper 01, "Frame fields used" and "Numbers the station answers with": reading a frame.
-use Rattle.std.specs.Prelude.{◌&&◌, ◌||◌, ◌-◌}
+use Rattle.std.specs.Prelude.{Result, Ok, Err, ◌&&◌, ◌||◌, ◌-◌}
 use Rattle.laws.specs.Usual.{Bool, true, false, cond, not, List, ℕ, length, drop, eqb, leb}
 use Rattle.area.specs.Areas.{in_range}
 use Rattle.block.specs.Blocks.{blocks_of, length_of}
@@ -8,20 +8,22 @@ use Rattle.frame.specs.Octets.{octet_at, word_at, long_at}
 use Rattle.frame.specs.Positions.{TFL, SNA, DNA, TCD, C_AD1, C_SZ1, C_AD2, C_SZ2, CBN, TBN, BSIZE, TW}
 use Rattle.frame.specs.declared.Fields.{Fields}
 use Rattle.frame.specs.declared.Code.{Code}
-use Rattle.frame_reading.specs.declared.Read.{Read}
-use Rattle.frame_reading.specs.declared.Read.TheVariants.{Frame, Refused}
 use Rattle.frame.specs.declared.Refusal.{Refusal}
 use Rattle.frame.specs.declared.Refusal.TheVariants as refusals
+
+-- what reading gives: the fields, or the refusal
+abbrev pub Read : Type 0
+Read = Result Fields Refusal
 
 -- the refusal where the test fails, else what comes after it: "the first that applies"
 abbrev pub need : Bool → Refusal → Read → Read
 need true refusal rest = rest
-need false refusal rest = Refused refusal
+need false refusal rest = Err refusal
 
 -- what comes after a frame that is not refused so far
 abbrev pub and_then : Read → (Fields → Read) → Read
-and_then (Frame fields) rest = rest fields
-and_then (Refused refusal) rest = Refused refusal
+and_then (Ok fields) rest = rest fields
+and_then (Err refusal) rest = Err refusal
 
 -- 1: "fewer than 64 or more than 1120 octets given"
 abbrev pub whole : List ℕ → Bool
@@ -99,7 +101,7 @@ read_header_of s =
     (need (long s) refusals.Length
     (need (coded s) refusals.Code
     (need (addressed (fields_of (code_in s) s)) refusals.Address
-    (Frame (fields_of (code_in s) s))))))
+    (Ok (fields_of (code_in s) s))))))
 
 -- refusals 7, 14, 15 and 8, in this order, of a frame of so many octets given
 abbrev pub read_body_of : ℕ → Fields → Read
@@ -108,7 +110,7 @@ read_body_of given fields =
     (need (not (is_cyclic fields.code) || totalled fields) refusals.Total
     (need (not (is_cyclic fields.code) || numbered fields) refusals.Number
     (need (not (is_cyclic fields.code) || measured given fields) refusals.Block
-    (Frame fields))))
+    (Ok fields))))
 
 -- the fields, or the first of refusals 1 to 5, 7, 14, 15 and 8 that applies. A station asks 6 between the two parts, and 9 after them.
 unfoldable pub read_of : List ℕ → Read

@@ -9,25 +9,19 @@ ghost use Rattle.laws.specs.Usual.{length};
 ghost use Rattle.frame_reading.specs.Reading.{marked, fields_of, is_station, addressed, read_header_of};
 
 use area::{Areas, Part};
-use frame::{Code, Coded, Fields, Refusal};
+use frame::{Code, Fields, Refusal};
 pub use octets::{long_at, word_at};
 pub use position::{BSIZE, DNA, SNA, TCD, TFL};
 use units::Milliseconds;
 
-#[derive(Clone, Copy)]
-pub enum Read {
-    Frame(Fields),
-    Refused(Refusal),
-}
-
 // The frame type mark, "FACN".
 fn has_mark(s: &[u8]) -> bool
-    requires { 64 ≤ length s.now }
     ensures { result ≡ marked s.now }
 {
-    (s[0] == b'F') & ((s[1] == b'A') & ((s[2] == b'C') & (s[3] == b'N')))
+    matches!(s, [b'F', b'A', b'C', b'N', ..])
 }
 
+#[tactic(auto, unfolding(crate::specs::Reading::fields_of))]
 fn fields_of(code: Code, s: &[u8]) -> Fields
     requires { 64 ≤ length s.now }
     ensures { result ≡ fields_of code s.now }
@@ -57,41 +51,32 @@ fn fields_of(code: Code, s: &[u8]) -> Fields
 pub fn is_station(number: u8) -> bool
     ensures { result ≡ is_station number }
 {
-    (1 <= number) & (number <= 254)
+    matches!(number, 1..=254)
 }
 
 fn is_addressed(fields: Fields) -> bool
     ensures { result ≡ addressed fields }
 {
-    let code = fields.code;
-    is_station(fields.source) & (!frame::is_token(code) | is_station(fields.destination))
+    is_station(fields.source) && (!frame::is_token(fields.code) || is_station(fields.destination))
 }
 
 // What it answers is not yet a frame: refusals 7, 14, 15 and 8 are asked by frame_body::read_body.
-pub fn read_header(s: &[u8]) -> Read
+pub fn read_header(s: &[u8]) -> Result<Fields, Refusal>
     ensures { result ≡ read_header_of s.now }
 {
-    let given = s.len();
-    if given < 64 {
-        return Read::Refused(Refusal::Cut);
-    }
-    if 1120 < given {
-        return Read::Refused(Refusal::Cut);
+    if !matches!(s.len(), 64..=1120) {
+        return Err(Refusal::Cut);
     }
     if !has_mark(s) {
-        return Read::Refused(Refusal::Mark);
+        return Err(Refusal::Mark);
     }
-    if long_at(s, position::TFL) as usize != given {
-        return Read::Refused(Refusal::Length);
+    if long_at(s, position::TFL) as usize != s.len() {
+        return Err(Refusal::Length);
     }
-    let coded = frame::code_of(word_at(s, position::TCD));
-    let Coded::Known(code) = coded else {
-        return Read::Refused(Refusal::Code);
-    };
+    let code = Code::try_from(word_at(s, position::TCD))?;
     let fields = fields_of(code, s);
-    if is_addressed(fields) {
-        Read::Frame(fields)
-    } else {
-        Read::Refused(Refusal::Address)
+    if !is_addressed(fields) {
+        return Err(Refusal::Address);
     }
+    Ok(fields)
 }

@@ -6,6 +6,7 @@ ghost use Rattle.frame_refusals.specs.Refusals.{number_of};
 
 use frame::Refusal;
 
+// A function, and no `From`: an impl would have to stand in crate `frame`, below the definitions of the numbers.
 pub fn number_of(refusal: Refusal) -> u8
     ensures { result ≡ number_of refusal }
 {

@@ -1,5 +1,5 @@
 -- What is written reads back to the same fields and the same data. Assumes nothing.
-use Rattle.std.specs.Prelude.{◌≡◌, ◌&&◌, ◌||◌, ◌++◌, ◌+◌, ◌-◌, ◌≤◌}
+use Rattle.std.specs.Prelude.{Some, Ok, ◌≡◌, ◌&&◌, ◌||◌, ◌++◌, ◌+◌, ◌-◌, ◌≤◌}
 use Rattle.laws.specs.Usual.{refl, sym, ap, ◌∙◌, Bool, true, false, cond, not, List, ℕ, arith, length, take, drop}
 use Rattle.std.proofs.Common.{drop_at}
 use borrow.Author.Tests.{le-leb, eq-eqb}
@@ -12,12 +12,10 @@ use Rattle.frame.specs.Octets.{word_at, long_at}
 use Rattle.frame.specs.Positions.{TFL, TCD}
 use Rattle.frame.specs.declared.Code.{Code}
 use Rattle.frame.specs.declared.Code.TheVariants.{Token, Cyclic, Request, Trigger}
-use Rattle.frame.specs.declared.Coded.TheVariants.{Known}
 use Rattle.frame.specs.declared.Fields.{Fields}
 use Rattle.frame_round_trip.proofs.Accepted.{reads}
 use Rattle.frame_round_trip.specs.Accepted.{Accepted}
 use Rattle.frame_reading.specs.Reading.{whole, marked, fields_of, is_station, blocked, read_of, data_size, data_of}
-use Rattle.frame_reading.specs.declared.Read.TheVariants.{Frame}
 use Rattle.frame_round_trip.proofs.Digits.{word_back, long_back}
 use Rattle.frame_writing.specs.Lengths.{length_header, length_frame}
 use Rattle.frame_writing.specs.Writing.{fixed_for, fixed, header_of, frame_of, everyone, no_areas}
@@ -28,13 +26,13 @@ fields_back : (fields : Fields) (rest : List ℕ) → fields_of fields.code (hea
 unfolding fields_of header_of
 fields_back fields rest = simp (long_back, word_back)
 
-code_back : (code : Code) → code_of (code_number code) ≡ Known code
+code_back : (code : Code) → code_of (code_number code) ≡ Some code
 code_back Token = refl
 code_back Cyclic = refl
 code_back Request = refl
 code_back Trigger = refl
 
-coded_back : (fields : Fields) (rest : List ℕ) → code_of (word_at (header_of fields ++ rest) TCD) ≡ Known fields.code
+coded_back : (fields : Fields) (rest : List ℕ) → code_of (word_at (header_of fields ++ rest) TCD) ≡ Some fields.code
 unfolding header_of
 coded_back fields rest = ap code_of (word_back (code_number fields.code)) ∙ code_back fields.code
 
@@ -120,7 +118,7 @@ module _ (fields : Fields) (block : List ℕ) (ok : Sendable fields) (enough : d
         ∙ blocked_for fields.code fields (λ e. blocked_so fields (ok.total e) (ok.first e) (ok.last e) (ok.size e));
   }
 
-  pub fields_read : read_of (frame_of fields block) ≡ Frame (fixed fields)
+  pub fields_read : read_of (frame_of fields block) ≡ Ok (fixed fields)
   fields_read = reads accepted_back
 
   pub data_read : data_of (frame_of fields block) (fixed fields) ≡ take (data_size fields) block

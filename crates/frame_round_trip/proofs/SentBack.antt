@@ -1,5 +1,5 @@
 -- Every frame that a station sends reads back to just the fields that were meant. Assumes nothing.
-use Rattle.std.specs.Prelude.{◌≡◌, ◌+◌, ◌≤◌}
+use Rattle.std.specs.Prelude.{Ok, ◌≡◌, ◌+◌, ◌≤◌}
 use Rattle.laws.specs.Usual.{[], refl, ap, ◌∙◌, Bool, true, false, cond, false≢true, List, ℕ, length, eqb}
 use Rattle.std.proofs.Common.{le_refl}
 use Rattle.area.specs.Areas.{in_range}
@@ -9,7 +9,6 @@ use Rattle.frame.specs.Codes.{is_cyclic, carries_areas}
 use Rattle.frame.specs.declared.Code.TheVariants.{Token, Cyclic}
 use Rattle.frame.specs.declared.Fields.{Fields}
 use Rattle.frame_reading.specs.Reading.{is_station, read_of, data_size}
-use Rattle.frame_reading.specs.declared.Read.TheVariants.{Frame}
 use Rattle.units.specs.declared.Milliseconds.{Milliseconds}
 use Rattle.frame_round_trip.proofs.ReadBack.{fields_read}
 use Rattle.frame_round_trip.specs.ReadBack.{Sendable}
@@ -39,8 +38,8 @@ module _ (source next : ℕ) (areas : Areas) (watch : Milliseconds) (block : ℕ
   block_size = ap (λ (test : Bool). cond test (length_of areas block) 0) (block_cyclic (eqb block (blocks_of areas)))
 
 -- a frame is read as its fields where these are as the code fixes them
-same_back : (fields : Fields) (block : List ℕ) → Sendable fields → data_size fields ≤ length block → fixed fields ≡ fields → read_of (frame_of fields block) ≡ Frame fields
-same_back fields block ok enough e = fields_read fields block ok enough ∙ ap Frame e
+same_back : (fields : Fields) (block : List ℕ) → Sendable fields → data_size fields ≤ length block → fixed fields ≡ fields → read_of (frame_of fields block) ≡ Ok fields
+same_back fields block ok enough e = fields_read fields block ok enough ∙ ap Ok e
 
 module _ (source : ℕ) (is_source : is_station source ≡ true) where
   trigger_sendable : Sendable (trigger_fields source)
@@ -54,7 +53,7 @@ module _ (source : ℕ) (is_source : is_station source ≡ true) where
     size = λ e. absurd (false≢true e);
   }
 
-  pub trigger_back : read_of (frame_of (trigger_fields source) []) ≡ Frame (trigger_fields source)
+  pub trigger_back : read_of (frame_of (trigger_fields source) []) ≡ Ok (trigger_fields source)
   unfolding fixed_for
   trigger_back = same_back (trigger_fields source) [] trigger_sendable (le_refl 0) refl
 
@@ -70,7 +69,7 @@ module _ (source : ℕ) (is_source : is_station source ≡ true) where
       size = λ e. absurd (false≢true e);
     }
 
-    pub request_back : read_of (frame_of (request_fields source areas watch) []) ≡ Frame (request_fields source areas watch)
+    pub request_back : read_of (frame_of (request_fields source areas watch) []) ≡ Ok (request_fields source areas watch)
     unfolding fixed_for
     request_back = same_back (request_fields source areas watch) [] request_sendable (le_refl 0) refl
 
@@ -87,7 +86,7 @@ module _ (source : ℕ) (is_source : is_station source ≡ true) where
       }
 
       module _ (octets : List ℕ) (enough : length_of areas block ≤ length octets) where
-        pub block_back : read_of (frame_of (block_fields source next areas watch block) octets) ≡ Frame (block_fields source next areas watch block)
+        pub block_back : read_of (frame_of (block_fields source next areas watch block) octets) ≡ Ok (block_fields source next areas watch block)
         block_back =
             same_back (block_fields source next areas watch block) octets block_sendable (rw (block_size source next areas watch block) enough)
             (block_fixed source next areas watch block)

@@ -1,5 +1,5 @@
 -- What is proved of the definitions in specs/WriteBack.antt.
-use Rattle.std.specs.Prelude.{◌≡◌, ◌∷◌, ◌++◌, ◌+◌, ◌-◌, ◌/◌, ◌%◌, ◌<◌, ◌≤◌}
+use Rattle.std.specs.Prelude.{Some, None, Ok, ◌≡◌, ◌∷◌, ◌++◌, ◌+◌, ◌-◌, ◌/◌, ◌%◌, ◌<◌, ◌≤◌}
 use Rattle.laws.specs.Usual.{[], refl, sym, ap, ◌∙◌, Bool, true, false, cond, List, ℕ, arith, length, take, eqb, leb}
 use mathlib.Core.List.{head-eq_of_cons-eq, tail-eq_of_cons-eq}
 use Rattle.std.proofs.Common.{length-drop, take_all, le_of_eq, eqb-true, leb-true}
@@ -9,13 +9,11 @@ use Rattle.frame.specs.Octets.{octet_at, word_at, long_at}
 use Rattle.frame.specs.Positions.{header_length, TFL, TCD}
 use Rattle.frame.specs.declared.Code.{Code}
 use Rattle.frame.specs.declared.Code.TheVariants.{Token, Cyclic, Request, Trigger}
-use Rattle.frame.specs.declared.Coded.TheVariants.{Known, Unknown}
 use Rattle.frame.specs.declared.Fields.{Fields}
 use Rattle.frame_round_trip.proofs.Accepted.{accepted}
 use Rattle.frame_round_trip.specs.Accepted.{Accepted}
 use Rattle.frame_round_trip.proofs.Shown.{source_is, destination_is, areas_are, block_is, length_is}
 use Rattle.frame_reading.specs.Reading.{fields_of, read_of, data_size, data_of}
-use Rattle.frame_reading.specs.declared.Read.TheVariants.{Frame}
 use Rattle.frame_round_trip.proofs.Digits.{high_back, low_back, first_back, second_back, third_back, fourth_back}
 use Rattle.frame_round_trip.specs.Places.{run, length_places, field_places, free_places, fixed_octets, other_octets, places_in, octets_in, without, among, octets_at}
 use Rattle.frame_round_trip.proofs.ReadBack.{data_small, data_read}
@@ -93,14 +91,14 @@ short_length fields rest h =
     simp (a, b, c)
 
 -- a number that is read as a code is that code's number
-code_number_lem : (number : ℕ) (code : Code) → code_of number ≡ Known code → code_number code ≡ number
+pub code_number_lem : (number : ℕ) (code : Code) → code_of number ≡ Some code → code_number code ≡ number
 code_number_lem number code e = by (eqb number 65000) refl (eqb number 65001) refl (eqb number 65002) refl (eqb number 65012) refl e
   where
-    same : {a b : Code} → Known a ≡ Known b → a ≡ b
+    same : {a b : Code} → Some a ≡ Some b → a ≡ b
     same p = cc
 
     by : (a : Bool) → eqb number 65000 ≡ a → (b : Bool) → eqb number 65001 ≡ b → (c : Bool) → eqb number 65002 ≡ c → (d : Bool) → eqb number 65012 ≡ d →
-        cond a (Known Token) (cond b (Known Cyclic) (cond c (Known Request) (cond d (Known Trigger) Unknown))) ≡ Known code → code_number code ≡ number
+        cond a (Some Token) (cond b (Some Cyclic) (cond c (Some Request) (cond d (Some Trigger) None))) ≡ Some code → code_number code ≡ number
     by true p b q c r d t e = ap code_number (sym (same e)) ∙ sym (eqb-true number 65000 p)
     by false p true q c r d t e = ap code_number (sym (same e)) ∙ sym (eqb-true number 65001 q)
     by false p false q true r d t e = ap code_number (sym (same e)) ∙ sym (eqb-true number 65002 r)
@@ -127,7 +125,7 @@ whole_given {s} {fields} a = by (is_cyclic fields.code) (λ e. (block_is a e).le
     by true h = let part = h refl in omega arith
     by false h = leb-true 64 (length s) (first (leb 64 (length s)) (leb (length s) 1120) a.is_whole)
 
-pub written_back : (s : List ℕ) (fields : Fields) → Octets s → read_of s ≡ Frame fields → WrittenBack s fields
+pub written_back : (s : List ℕ) (fields : Fields) → Octets s → read_of s ≡ Ok fields → WrittenBack s fields
 unfolding fixed_for
 written_back s fields small e =
     let a = accepted s fields e in

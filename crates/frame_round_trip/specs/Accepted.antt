@@ -1,10 +1,9 @@
 -- A list of octets is read as fields just where it passes every test, and the fields are those that stand in it. Assumes nothing.
-use Rattle.std.specs.Prelude.{◌≡◌, ◌||◌}
+use Rattle.std.specs.Prelude.{Some, ◌≡◌, ◌||◌}
 use Rattle.laws.specs.Usual.{true, not, List, ℕ, length}
 use Rattle.frame.specs.Codes.{code_of, is_cyclic}
 use Rattle.frame.specs.Octets.{word_at}
 use Rattle.frame.specs.Positions.{TCD}
-use Rattle.frame.specs.declared.Coded.TheVariants.{Known}
 use Rattle.frame.specs.declared.Fields.{Fields}
 use Rattle.frame_reading.specs.Reading.{whole, marked, long, fields_of, addressed, ranged, blocked}
 
@@ -13,7 +12,7 @@ pub record Accepted (s : List ℕ) (fields : Fields) : Type 0 where
   pub is_whole : whole s ≡ true
   pub is_marked : marked s ≡ true
   pub is_long : long s ≡ true
-  pub is_coded : code_of (word_at s TCD) ≡ Known fields.code
+  pub is_coded : code_of (word_at s TCD) ≡ Some fields.code
   pub holds : fields_of fields.code s ≡ fields
   pub is_addressed : addressed fields ≡ true
   pub is_ranged : ranged fields ≡ true
@@ -24,7 +23,7 @@ pub record Headed (s : List ℕ) (fields : Fields) : Type 0 where
   pub is_whole : whole s ≡ true
   pub is_marked : marked s ≡ true
   pub is_long : long s ≡ true
-  pub is_coded : code_of (word_at s TCD) ≡ Known fields.code
+  pub is_coded : code_of (word_at s TCD) ≡ Some fields.code
   pub holds : fields_of fields.code s ≡ fields
   pub is_addressed : addressed fields ≡ true
 

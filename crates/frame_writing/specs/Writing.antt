@@ -1,6 +1,6 @@
 -- Paper 01, "Frame fields used": writing a frame. "We write 64-octet headers. .. A field that no rule here sets, and the destination outside
 -- code 65000, gets the value that clause 10.1 fixes for that frame, else 0."
-use Rattle.std.specs.Prelude.{◌&&◌, ◌∷◌, ◌++◌, ◌+◌, ◌/◌, ◌%◌}
+use Rattle.std.specs.Prelude.{Result, Ok, Err, ◌&&◌, ◌∷◌, ◌++◌, ◌+◌, ◌/◌, ◌%◌}
 use Rattle.laws.specs.Usual.{Bool, cond, List, [], ℕ, length, take, drop, replicate, leb}
 use Rattle.area.specs.declared.Areas.{Areas}
 use Rattle.units.specs.declared.Milliseconds.{Milliseconds}
@@ -8,10 +8,9 @@ use Rattle.frame.specs.Codes.{code_number, is_cyclic, carries_areas}
 use Rattle.frame.specs.Positions.{header_length}
 use Rattle.frame.specs.declared.Code.{Code}
 use Rattle.frame.specs.declared.Fields.{Fields}
+use Rattle.frame.specs.declared.Refusal.{Refusal}
 use Rattle.frame.specs.declared.Refusal.TheVariants.{Buffer}
 use Rattle.frame_reading.specs.Reading.{data_size}
-use Rattle.frame_writing.specs.declared.Written.{Written}
-use Rattle.frame_writing.specs.declared.Written.TheVariants.{Octets, Refused}
 
 -- the octets of the frame that we write
 abbrev pub whole_length : Fields → ℕ
@@ -93,9 +92,13 @@ frame_of fields block = header_of (fixed fields) ++ take (data_size fields) bloc
 abbrev pub fits : Fields → List ℕ → List ℕ → Bool
 fits fields block output = leb (data_size fields) (length block) && leb (whole_length fields) (length output)
 
+-- what writing answers: the number of octets of the frame, which stands in front in the output, or the refusal
+abbrev pub Written : Type 0
+Written = Result ℕ Refusal
+
 -- the answer: the number of octets written, or 11
 abbrev pub written_of : Fields → List ℕ → List ℕ → Written
-written_of fields block output = cond (fits fields block output) (Octets (whole_length fields)) (Refused Buffer)
+written_of fields block output = cond (fits fields block output) (Ok (whole_length fields)) (Err Buffer)
 
 -- the output afterwards: the frame in front and the rest as it was, or all of it as it was
 abbrev pub output_of : Fields → List ℕ → List ℕ → List ℕ
