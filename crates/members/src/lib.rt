@@ -4,12 +4,13 @@
 ghost use Rattle.std.specs.Prelude.{◌≡◌};
 ghost use Rattle.members.specs.Members.{nobody, no_members, entry_of, is_listed, with_entry};
 
-use area::{Areas, Part};
+use area::Areas;
 use units::Milliseconds;
 
-// An entry, at the place of its station's number. One that is not listed holds nothing else.
+// An entry, at the place of its station's number. One that is not listed holds nothing else. A flag and no Option: C lends the flags in an array
+// of their own.
 #[repr(C)]
-#[derive(Clone, Copy)]
+#[derive(Clone, Copy, PartialEq, Eq, Default)]
 pub struct Entry {
     pub listed: bool,
     pub areas: Areas,
@@ -26,19 +27,7 @@ pub struct Members {
 pub fn unlisted() -> Entry
     ensures { result ≡ nobody }
 {
-    let empty = Part {
-        address: 0,
-        size: 0,
-    };
-    Entry {
-        listed: false,
-        areas: Areas {
-            one: empty,
-            two: empty,
-        },
-        watch: Milliseconds(0),
-        misses: 0,
-    }
+    Entry::default()
 }
 
 pub fn no_members() -> Members
@@ -53,8 +42,7 @@ pub fn no_members() -> Members
 pub fn entry_of(members: Members, number: u8) -> Entry
     ensures { result ≡ entry_of members number }
 {
-    let entries = members.entries;
-    entries[number as usize]
+    members.entries[usize::from(number)]
 }
 
 pub fn is_listed(members: Members, number: u8) -> bool
@@ -67,6 +55,6 @@ pub fn with_entry(members: Members, number: u8, entry: Entry) -> Members
     ensures { result ≡ with_entry members number entry }
 {
     let mut entries = members.entries;
-    entries[number as usize] = entry;
+    entries[usize::from(number)] = entry;
     Members { entries }
 }

@@ -16,12 +16,12 @@ pub fn bare(areas: Areas) -> Areas
 {
     Areas {
         one: Part {
-            address: areas.one.address,
             size: 0,
+            ..areas.one
         },
         two: Part {
-            address: areas.two.address,
             size: 0,
+            ..areas.two
         },
     }
 }
@@ -29,17 +29,10 @@ pub fn bare(areas: Areas) -> Areas
 fn overlaps_other(members: Members, number: u8, areas: Areas) -> bool
     ensures { result ≡ overlaps_other members number areas }
 {
-    let own = number as usize;
-    let entries = members.entries;
-    let mut other: usize = 0;
-    while other < 256 {
-        let entry = entries[other];
-        if (entry.listed & (other != own)) & areas_overlap(areas, entry.areas) {
-            return true;
-        }
-        other += 1;
-    }
-    false
+    let own = usize::from(number);
+    members.entries.iter().enumerate().any(|(other, entry)| {
+        entry.listed && other != own && areas_overlap(areas, entry.areas)
+    })
 }
 
 // No entry has number 0, so every listed one is another station's.

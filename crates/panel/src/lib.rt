@@ -8,14 +8,14 @@ use units::Ticks;
 
 // The takings since we began to participate (2 stands for more), the ticks since the last one, and the last finished gap.
 #[repr(C)]
-#[derive(Clone, Copy)]
+#[derive(Clone, Copy, PartialEq, Eq, Default)]
 pub struct Panel {
     pub takings: u8,
     pub running: Ticks,
     pub gap: Ticks,
 }
 
-#[derive(Clone, Copy)]
+#[derive(Clone, Copy, PartialEq, Eq)]
 pub enum Figure {
     // "--"
     Nothing,
@@ -24,7 +24,7 @@ pub enum Figure {
     Gap(Ticks),
 }
 
-// What is shown, in ASCII: the first `length` octets, and zeros behind them.
+// What is shown, in ASCII: the first `length` octets, and zeros behind them. An array with a length, since it is handed on by value, without a heap.
 #[derive(Clone, Copy)]
 pub struct Text {
     pub octets: [u8; 6],
@@ -34,40 +34,31 @@ pub struct Text {
 pub fn blank() -> Panel
     ensures { result ≡ blank }
 {
-    Panel {
-        takings: 0,
-        running: Ticks(0),
-        gap: Ticks(0),
-    }
+    Panel::default()
 }
 
 fn count(ticks: Ticks) -> Ticks
     ensures { result.0 ≡ counted ticks.0 }
 {
-    if ticks.0 < 65536 {
-        Ticks(ticks.0 + 1)
-    } else {
-        Ticks(65536)
-    }
+    Ticks(ticks.0.saturating_add(1).min(65536))
 }
 
 pub fn tick(panel: Panel) -> Panel
     ensures { result ≡ ticked panel }
 {
-    let running = count(panel.running);
-    Panel { running, ..panel }
+    Panel {
+        running: count(panel.running),
+        ..panel
+    }
 }
 
 pub fn take(panel: Panel) -> Panel
     ensures { result ≡ after_taking panel }
 {
-    let takings = if panel.takings == 0 { 1 } else { 2 };
-    let gap = panel.running;
-    let running = Ticks(0);
     Panel {
-        takings,
-        running,
-        gap,
+        takings: panel.takings.saturating_add(1).min(2),
+        running: Ticks(0),
+        gap: panel.running,
     }
 }
 
@@ -82,10 +73,10 @@ pub fn figure_of(panel: Panel) -> Figure
 {
     let gap = panel.gap;
     if panel.takings < 2 {
-        return Figure::Nothing;
+        Figure::Nothing
+    } else if is_over(gap) {
+        Figure::Over
+    } else {
+        Figure::Gap(gap)
     }
-    if is_over(gap) {
-        return Figure::Over;
-    }
-    Figure::Gap(gap)
 }

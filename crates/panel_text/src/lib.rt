@@ -17,6 +17,7 @@ fn over_text() -> Text
 }
 
 // The text of a gap that is not over, in a buffer with zeros behind it.
+// The six octets come from a longer buffer, since `put_decimal` asks for room for any number.
 fn tenths_text(gap: Ticks) -> Text
     requires { gap.0 ≤ 65535 }
     ensures { result ≡ in_six (tenths_text gap) }

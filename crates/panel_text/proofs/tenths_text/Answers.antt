@@ -1,6 +1,6 @@
 -- `panel_text::tenths_text` meets its contract.
 use Rattle.std.specs.Prelude.{◌≡◌, ◌∷◌, ◌++◌, ◌+◌, ◌/◌, ◌%◌, ◌≤◌}
-use Rattle.laws.specs.Usual.{ap, ap₂, ◌∙◌, List, [], ℕ, arith, length, set, replicate, rules}
+use Rattle.laws.specs.Usual.{ap, ap₂, ◌∙◌, List, [], ℕ, arith, length, set, replicate}
 use lib.ListN.{length-append, length-set}
 use lib.Seq.{append_snoc}
 use Rattle.copying.specs.Laws.{paste_more, paste_append}
@@ -25,9 +25,6 @@ put_both whole tenths h =
 
 pub bounds-buffer-point : goal.bounds-buffer-point
 bounds-buffer-point c = omega (arith, four_digits (c.args.gap.0 / 10) (omega arith), c.put_decimal-point.ensures.value)
-
-pub overflow_add-point : goal.overflow_add-point
-overflow_add-point c = omega (arith, four_digits (c.args.gap.0 / 10) (omega arith), c.put_decimal-point.ensures.value)
 
 pub put_decimal-length-requires : goal.put_decimal-length-requires
 put_decimal-length-requires c = simp length-set (omega (arith, four_digits (c.args.gap.0 / 10) (omega arith), c.put_decimal-point.ensures.value, c.put_decimal-point.auto.output))
