@@ -1,5 +1,5 @@
 -- What every call does to one station's entry. Assumes nothing.
-use Rattle.std.specs.Prelude.{◌≡◌, ◌&&◌}
+use Rattle.std.specs.Prelude.{Ok, ◌≡◌, ◌&&◌}
 use Rattle.laws.specs.Usual.{[], Bool, true, false, cond, not, false≢true, List, ℕ, eqb, ltb}
 use Rattle.std.proofs.Math.Bool.{and-false}
 use Rattle.frame.specs.Codes.{is_cyclic}
@@ -21,7 +21,6 @@ use Rattle.station.specs.Types.{Fields, Code, Read}
 use Rattle.station.specs.declared.Phase.{Phase}
 use Rattle.station.specs.declared.Phase.TheVariants.{Off, Listening, Startup, Joining, Participating}
 use Rattle.station.specs.declared.Station.{Station}
-use Rattle.station.specs.declared.Switched.TheVariants.{Done}
 use Rattle.frame_writing.specs.Writing.{no_areas}
 use Rattle.station.specs.Rules.Asking.{Asking}
 use Rattle.misses.specs.EntryMoves.{Moves}
@@ -59,7 +58,7 @@ module _ (x : ℕ) where
   stop_empties station = by station.phase
     where
       by : (phase : Phase) → is_participating phase ≡ true
-          → is_listed (need (not (is_off phase)) refusals.NotDue station (record { station = stopped station; answer = Done })).station.members x ≡ false
+          → is_listed (need (not (is_off phase)) refusals.NotDue station (record { station = stopped station; answer = Ok tt })).station.members x ≡ false
       by Off e = absurd (false≢true e)
       by Listening e = none_listed x
       by Startup e = none_listed x

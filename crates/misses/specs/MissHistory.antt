@@ -1,7 +1,7 @@
 -- Paper 01, "The token view and the watch": misses, and the third in a row, told from the calls since off, from the frames that were heard, and
 -- from the phase, the rounds, the view and the watch before each call (`WatchHistory` tells when the watch ends from the calls, too). Nothing
 -- here looks at the misses that an entry carries, nor at what strikes it.
-use Rattle.std.specs.Prelude.{◌≡◌, ◌&&◌, ◌||◌, ◌∷◌}
+use Rattle.std.specs.Prelude.{Ok, Err, ◌≡◌, ◌&&◌, ◌||◌, ◌∷◌}
 use Rattle.laws.specs.Usual.{[], Bool, true, false, cond, List, ℕ, suc, eqb, ltb}
 use Rattle.frame.specs.Codes.{is_token, is_cyclic}
 use Rattle.frame.specs.declared.Code.TheVariants.{Token, Cyclic, Request, Trigger}
@@ -11,7 +11,7 @@ use Rattle.station.specs.Rules.Calls.{Call, start, stop, tick, hear, ask, Verdic
 use Rattle.station.specs.Panel.History.{Step, step_of, history, state_after, participates, is_tick}
 use Rattle.station.specs.Rules.State.{never}
 use Rattle.station.specs.Rules.Ticking.{watch_ends}
-use Rattle.station.specs.Types.{Fields, Code, Read, Frame, Refused}
+use Rattle.station.specs.Types.{Fields, Code, Read}
 use Rattle.station.specs.declared.Phase.{Phase}
 use Rattle.station.specs.declared.Phase.TheVariants.{Off, Listening, Startup, Joining, Participating}
 use Rattle.station.specs.declared.Station.{Station}
@@ -28,8 +28,8 @@ is_unrefused unrefused = true
 
 -- the octets read as a frame that meets a test
 abbrev pub reads_as : (Fields → Bool) → Read → Bool
-reads_as test (Frame frame) = test frame
-reads_as test (Refused refusal) = false
+reads_as test (Ok frame) = test frame
+reads_as test (Err refusal) = false
 
 -- a call that hears such a frame unrefused
 abbrev pub hears : (Fields → Bool) → Station → Call → Bool

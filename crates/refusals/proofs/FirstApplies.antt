@@ -1,7 +1,7 @@
 -- Order: 11, 10, 1, 2, 3, 4, 5, 6, 7, 14, 15, 8, 9, "the first that applies": what every call answers, as far as it is a refusal. Assumes
 -- nothing.
 use Rattle.laws.specs.Usual.{refl, sym, ap, ◌∙◌, Bool, true, false, cond, not, List, ℕ, suc, length, eqb, leb, ltb}
-use Rattle.std.specs.Prelude.{◌≡◌, ◌&&◌, ◌||◌, zero}
+use Rattle.std.specs.Prelude.{Ok, Err, ◌≡◌, ◌&&◌, ◌||◌, zero}
 use Rattle.std.proofs.Math.Dec.{leb-zero, leb-suc-suc, eqb-suc-zero}
 use Rattle.std.proofs.Common.{leb-true, leb-false, lt-ltb, le-ltb}
 use Rattle.station.specs.Rules.Asking.{Asking}
@@ -9,7 +9,7 @@ use Rattle.station.specs.Rules.Calls.{Call, start, stop, tick, hear, ask, Verdic
 use Rattle.station.specs.Rules.Hearing.{Hearing, lent_right, is_taken, is_stranger, body_heard, header_heard}
 use Rattle.station.proofs.RefusedLeft.{accepted_unrefused}
 use Rattle.station.specs.Rules.Starting.{Switching, need}
-use Rattle.station.specs.Types.{Refusal, Read, Frame, Refused}
+use Rattle.station.specs.Types.{Refusal, Read}
 use Rattle.station.specs.declared.Station.{Station}
 use Rattle.refusals.specs.Applies.{first_applying}
 use Rattle.frame.specs.declared.Refusal.TheVariants as refusals
@@ -60,12 +60,12 @@ heard_choice false one other = refl
 -- what a hearing answers after 7, 14, 15 and 8, and after 1 to 5
 module _ (station : Station) where
   body_verdict : Read → Verdict
-  body_verdict (Refused refusal) = refused_by refusal
-  body_verdict (Frame frame) = cond (is_stranger station frame) (refused_by refusals.Stranger) unrefused
+  body_verdict (Err refusal) = refused_by refusal
+  body_verdict (Ok frame) = cond (is_stranger station frame) (refused_by refusals.Stranger) unrefused
 
   header_verdict : ℕ → Read → Verdict
-  header_verdict given (Refused refusal) = refused_by refusal
-  header_verdict given (Frame frame) =
+  header_verdict given (Err refusal) = refused_by refusal
+  header_verdict given (Ok frame) =
       cond (is_taken station frame) (refused_by refusals.Taken) (body_verdict (reading.read_body_of given frame))
 
   body_choice : (test : Bool) (refusal : Refusal) (rest : Read)
@@ -83,15 +83,15 @@ module _ (station : Station) where
 module _ (station : Station) (octets memory assembly : List ℕ) where
   body_verdict_lem : (read : Read) → heard_verdict (body_heard station octets memory assembly read).answer ≡ body_verdict station read
   unfolding body_verdict
-  body_verdict_lem (Refused refusal) = refl
-  body_verdict_lem (Frame frame) =
+  body_verdict_lem (Err refusal) = refl
+  body_verdict_lem (Ok frame) =
       heard_choice (is_stranger station frame) _ _
       ∙ ap (cond (is_stranger station frame) (refused_by refusals.Stranger)) (accepted_unrefused station frame octets memory assembly)
 
   header_verdict_lem : (read : Read) → heard_verdict (header_heard station octets memory assembly read).answer ≡ header_verdict station (length octets) read
   unfolding header_verdict
-  header_verdict_lem (Refused refusal) = refl
-  header_verdict_lem (Frame frame) =
+  header_verdict_lem (Err refusal) = refl
+  header_verdict_lem (Ok frame) =
       heard_choice (is_taken station frame) _ _
       ∙ ap (cond (is_taken station frame) (refused_by refusals.Taken)) (body_verdict_lem (reading.read_body_of (length octets) frame))
 

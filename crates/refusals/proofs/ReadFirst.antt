@@ -1,9 +1,9 @@
 -- A frame that is read and that no station hears, as `decode` reads one, is refused by the same table. Assumes nothing.
-use Rattle.std.specs.Prelude.{◌≡◌}
+use Rattle.std.specs.Prelude.{Err, ◌≡◌}
 use Rattle.laws.specs.Usual.{refl, Bool, true, false, cond, List, ℕ}
 use Rattle.frame_refusals.specs.Refusals.{order}
 use Rattle.frame_reading.specs.Reading.{need, and_then, read_of}
-use Rattle.station.specs.Types.{Fields, Refusal, Read, Refused}
+use Rattle.station.specs.Types.{Fields, Refusal, Read}
 use Rattle.station.specs.Rules.Calls.{Verdict}
 use Rattle.refusals.specs.Applies.{frame_in, first_of}
 use Rattle.refusals.proofs.FirstApplies.{by_not, by_and, by_or, fewer}
@@ -20,7 +20,7 @@ by_choice : (frame : Fields) (test : Bool) (one other : Verdict)
 by_choice frame true one other = refl
 by_choice frame false one other = refl
 
-need_choice : (test : Bool) (refusal : Refusal) (rest : Read) → need test refusal rest ≡ cond test rest (Refused refusal)
+need_choice : (test : Bool) (refusal : Refusal) (rest : Read) → need test refusal rest ≡ cond test rest (Err refusal)
 need_choice true refusal rest = refl
 need_choice false refusal rest = refl
 

@@ -1,7 +1,8 @@
 -- A frame that is read and that no station hears, as `decode` reads one, is refused by the same table. Assumes nothing.
+use Rattle.std.specs.Prelude.{Ok, Err}
 use Rattle.laws.specs.Usual.{Bool, List, ℕ, replicate}
 use Rattle.area.specs.Areas.{memory_octets}
-use Rattle.station.specs.Types.{Fields, Refusal, Read, Frame, Refused}
+use Rattle.station.specs.Types.{Fields, Refusal, Read}
 use Rattle.station.specs.Rules.Calls.{hear, Verdict, refused_by, unrefused}
 use Rattle.station.specs.Rules.State.{never}
 use Rattle.refusals.specs.Applies.{applies}
@@ -16,5 +17,5 @@ applies_to octets refusal = applies refusal never (hear octets buffer buffer)
 
 -- a verdict as what is read: the fields as they stand in the octets, or the refusal
 abbrev pub read_by : Fields → Verdict → Read
-read_by frame unrefused = Frame frame
-read_by frame (refused_by refusal) = Refused refusal
+read_by frame unrefused = Ok frame
+read_by frame (refused_by refusal) = Err refusal

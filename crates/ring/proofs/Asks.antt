@@ -1,5 +1,5 @@
 -- An asking is a pass by the station that is asked, or nothing, to the views of the ring. Assumes nothing.
-use Rattle.std.specs.Prelude.{◌≡◌, ◌∷◌}
+use Rattle.std.specs.Prelude.{Ok, Err, ◌≡◌, ◌∷◌}
 use Rattle.laws.specs.Usual.{[], refl, sym, ap, ap₂, subst, ◌∙◌, Bool, true, false, cond, List, ℕ, take, eqb}
 use Rattle.std.proofs.Math.Decide.{ℕ_discrete}
 use Rattle.std.proofs.Common.{eq-eqb, ne_eqb, eqb-true}
@@ -17,7 +17,7 @@ use Rattle.station.specs.Rules.Token.{view_heard, view_after, restarted}
 use Rattle.frame.specs.declared.Fields.{Fields}
 use Rattle.station.specs.declared.Settings.{Settings}
 use Rattle.station.specs.declared.Station.{Station}
-use Rattle.station.specs.declared.Asked.{Asked}
+use Rattle.station.specs.Types.{Asked}
 use Rattle.frame_writing.specs.Writing.{whole_length}
 use Rattle.ring.specs.Counts.{token_to, given_by, gives, Does}
 use Rattle.ring.specs.Events.{Stations, Lent, Event, asked, handed, after_event, CanCome}
@@ -25,12 +25,11 @@ use Rattle.ring.proofs.Hears.{accepts}
 use Rattle.ring.specs.Member.{InRing}
 use Rattle.ring.proofs.Member.{restarted_in, cleared_kept, cleared_times, sent_in}
 use Rattle.station.proofs.Acts.{same_move}
-use Rattle.ring.proofs.Steps.{Ok, next_is, heard_in, sends, source_is, destination_is, cyclic_is, last_is, idle_station, idle_answer, asked_station, asked_answer, asked_read}
+use Rattle.ring.proofs.Steps.{KeptRing, next_is, heard_in, sends, source_is, destination_is, cyclic_is, last_is, idle_station, idle_answer, asked_station, asked_answer, asked_read}
 use Rattle.station.specs.Rules.Asking as asking
-use Rattle.station.specs.declared.Asked.TheVariants as answers
 
 module _ (numbers : List ℕ) (laws_next : (x : ℕ) → x ∈ numbers → next numbers x ∈ numbers)
-    (are_stations : (x : ℕ) → x ∈ numbers → is_station x ≡ true) (stations : Stations) (ok : Ok numbers stations)
+    (are_stations : (x : ℕ) → x ∈ numbers → is_station x ≡ true) (stations : Stations) (ok : KeptRing numbers stations)
     (who : ℕ) (memory turn output : List ℕ) (lent : ℕ → Lent) (can : CanCome numbers stations (asked who memory turn output lent)) where
   sender : Station
   sender = stations who
@@ -55,8 +54,8 @@ module _ (numbers : List ℕ) (laws_next : (x : ℕ) → x ∈ numbers → next 
 
   -- what a station is handed is one call, or none
   brought_handed : (n : ℕ) → n ∈ numbers → (answer : Asked) (output : List ℕ) → Brought (handed (stations n) (lent n) answer output)
-  brought_handed n m (answers.Octets count) output = brought_more (ok.brought n m) (hear (take count output) (lent n).memory (lent n).assembly)
-  brought_handed n m (answers.Refused refusal) output = ok.brought n m
+  brought_handed n m (Ok count) output = brought_more (ok.brought n m) (hear (take count output) (lent n).memory (lent n).assembly)
+  brought_handed n m (Err refusal) output = ok.brought n m
 
   brought_on : (n : ℕ) → n ∈ numbers → Brought (after_event stations event n)
   brought_on n m = by (eqb n who)
@@ -139,7 +138,7 @@ module _ (numbers : List ℕ) (laws_next : (x : ℕ) → x ∈ numbers → next 
         by (yes e) = subst (λ (k : ℕ). (after_event stations event k).elapsed.0 ≡ 0) (sym e) (ap (λ (s : Station). s.elapsed.0) sent)
         by (no e) = ap (λ (s : Station). s.elapsed.0) (heard n m e)
 
-    sent_ok : Ok numbers (after_event stations event)
+    sent_ok : KeptRing numbers (after_event stations event)
     sent_ok = record {
       each = sent_each;
       watch = λ n k p q.
@@ -196,7 +195,7 @@ module _ (numbers : List ℕ) (laws_next : (x : ℕ) → x ∈ numbers → next 
     sent_does false t =
         nothing (sent_gives ∙ ap (λ (test : Bool). cond test (frame.destination ∷ []) []) t) (λ n m. refl) (plain_views t)
 
-  asked_ok_if : (test : Bool) → holds (stations who) ≡ test → Ok numbers (after_event stations event)
+  asked_ok_if : (test : Bool) → holds (stations who) ≡ test → KeptRing numbers (after_event stations event)
   asked_ok_if true h = sent_ok h
   asked_ok_if false h = record {
     each = λ n m. subst (InRing numbers n) (sym (idle h n m)) (ok.each n m);
@@ -205,7 +204,7 @@ module _ (numbers : List ℕ) (laws_next : (x : ℕ) → x ∈ numbers → next 
     brought = brought_on;
   }
 
-  pub asked_ok : Ok numbers (after_event stations event)
+  pub asked_ok : KeptRing numbers (after_event stations event)
   asked_ok = asked_ok_if (holds (stations who)) refl
 
   asked_does_if : (test : Bool) → holds (stations who) ≡ test → Does numbers stations event

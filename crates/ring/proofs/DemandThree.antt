@@ -16,7 +16,7 @@ use Rattle.ring.specs.Demand.{LastCall, sent, heard, Disturbed, RingSettles}
 use Rattle.ring.specs.Events.{Stations, Event, after_event, views_of, AllName, CanCome}
 use Rattle.ring.proofs.Just.{just_zero}
 use Rattle.ring.proofs.Settles.{settles_from}
-use Rattle.ring.proofs.Steps.{Ok}
+use Rattle.ring.proofs.Steps.{KeptRing}
 use Rattle.ring.specs.DemandThree.{Fresh}
 
 -- a station that was brought there by calls is one that calls can leave
@@ -32,7 +32,7 @@ module _ {numbers : List ℕ} {stations : Stations} (ring : Fresh numbers statio
   on n m = ap is_off (ring.participates n m)
 
   -- what is kept from event to event holds at the start
-  pub begins : Ok numbers stations
+  pub begins : KeptRing numbers stations
   begins = record {
     each = λ n m. record {
       participates = ring.participates n m;

@@ -1,5 +1,5 @@
 -- A station of the ring hears what another one sends. Assumes nothing.
-use Rattle.std.specs.Prelude.{◌≡◌}
+use Rattle.std.specs.Prelude.{Ok, ◌≡◌}
 use Rattle.laws.specs.Usual.{sym, ◌∙◌, true, List, ℕ, eqb}
 use Rattle.std.proofs.Math.Bool.{or-true}
 use Rattle.std.proofs.Math.Decide.{ℕ_discrete}
@@ -9,7 +9,7 @@ use Rattle.frame_reading.specs.Reading.{read_of, data_of}
 use Rattle.settling.specs.Ring.{◌∈◌}
 use Rattle.station.specs.Rules.Data.{gathered}
 use Rattle.station.specs.Rules.Hearing.{knows, lent_right, participant_heard, hear_of}
-use Rattle.station.specs.Types.{Fields, Frame}
+use Rattle.station.specs.Types.{Fields}
 use Rattle.station.specs.declared.Station.{Station}
 use Rattle.ring.specs.Member.{InRing}
 use Rattle.ring.proofs.Member.{listed}
@@ -27,7 +27,7 @@ module _ {numbers : List ℕ} {number : ℕ} {station : Station} (in_ring : InRi
       by (yes e) = rw (eq-eqb x station.own.number (e ∙ sym in_ring.own))
       by (no other) = known x m other
 
-  module _ (octets memory assembly : List ℕ) (frame : Fields) (read : read_of octets ≡ Frame frame) (lent : lent_right memory assembly ≡ true)
+  module _ (octets memory assembly : List ℕ) (frame : Fields) (read : read_of octets ≡ Ok frame) (lent : lent_right memory assembly ≡ true)
       (source : frame.source ∈ numbers) (other : ¬ (frame.source ≡ number)) where
     -- a cyclic frame from a station of the ring, with a token for a station of the ring, is accepted
     pub accepts : is_cyclic frame.code ≡ true → frame.destination ∈ numbers →

@@ -14,7 +14,7 @@ use Rattle.ring.proofs.Asks.{asked_ok, asked_does}
 use Rattle.ring.specs.Counts.{ring_counting, Does}
 use Rattle.ring.specs.Demand.{RingSettles}
 use Rattle.ring.specs.Events.{Stations, Event, asked, ticked, stray, after_event, AllName, CanCome}
-use Rattle.ring.proofs.Steps.{Ok}
+use Rattle.ring.proofs.Steps.{KeptRing}
 use Rattle.ring.proofs.StrayEvents.{stray_ok, stray_does}
 use Rattle.ring.proofs.Ticks.{ticked_ok, ticked_does}
 
@@ -31,21 +31,21 @@ module _ {numbers : List ℕ} (ascending : Ascending numbers) (are_stations : (n
   starts = first_in numbers ascending.some
 
   -- every event that can come keeps what is kept of the ring, and does one of the three to the views
-  pub kept : (now : Stations) (event : Event) → Ok numbers now → CanCome numbers now event → Ok numbers (after_event now event)
+  pub kept : (now : Stations) (event : Event) → KeptRing numbers now → CanCome numbers now event → KeptRing numbers (after_event now event)
   kept now (asked who memory turn output lent) ok can = asked_ok numbers next_in_lem are_stations now ok who memory turn output lent can
   kept now ticked ok can = ticked_ok numbers next_in_lem starts now ok can
   kept now (stray who call) ok can = stray_ok numbers now ok who call can
 
-  pub does : (now : Stations) (event : Event) → Ok numbers now → CanCome numbers now event → Does numbers now event
+  pub does : (now : Stations) (event : Event) → KeptRing numbers now → CanCome numbers now event → Does numbers now event
   does now (asked who memory turn output lent) ok can = asked_does numbers next_in_lem are_stations now ok who memory turn output lent can
   does now ticked ok can = ticked_does numbers next_in_lem starts now ok can
   does now (stray who call) ok can = stray_does numbers now ok who call can
 
-  orderly : Orderly ring_counting numbers (Ok numbers) (CanCome numbers)
+  orderly : Orderly ring_counting numbers (KeptRing numbers) (CanCome numbers)
   orderly = record { within = λ now ok n m. (ok.each n m).view; keeps = kept; does = does }
 
   -- `before` is the part "up to the first time that they all name one holder, or to its end if they never do", and `later` the rest.
-  pub settles_from : {stations : Stations} {events before later : List Event} → Ok numbers stations
+  pub settles_from : {stations : Stations} {events before later : List Event} → KeptRing numbers stations
       → EachFinds after_event (CanCome numbers) stations events → FirstAgreement after_event (AllName numbers) stations events before later
       → RingSettles numbers stations before later
   settles_from begins come first = counting_settles orderly ascending begins come first

@@ -1,5 +1,5 @@
 -- Each event moves the views of the ring by one pass, by one silence or not at all. Assumes nothing.
-use Rattle.std.specs.Prelude.{◌≡◌, ◌≤◌}
+use Rattle.std.specs.Prelude.{Ok, Err, ◌≡◌, ◌≤◌}
 use Rattle.laws.specs.Usual.{refl, ap, ◌∙◌, Bool, true, false, cond, List, ℕ, min, arith, take, eqb, ltb}
 use Rattle.std.proofs.Math.Decide.{ℕ_discrete, dec_le}
 use Rattle.std.proofs.Common.{eq-eqb, ne_eqb, le-leb, lt-ltb}
@@ -15,17 +15,16 @@ use Rattle.station.specs.Frames.Asked.{CanSend}
 use Rattle.station.proofs.Frames.Asked.{asked_back}
 use Rattle.station.specs.Rules.State.{holds}
 use Rattle.station.specs.Rules.Token.{view_heard, view_after}
-use Rattle.station.specs.Types.{Fields, Frame}
+use Rattle.station.specs.Types.{Fields}
 use Rattle.station.specs.declared.Station.{Station}
 use Rattle.ring.specs.Events.{Stations}
 use Rattle.ring.specs.Member.{InRing}
 use Rattle.ring.proofs.Member.{next_same}
 use Rattle.frame.specs.declared.Refusal.TheVariants as refusals
 use Rattle.station.specs.Rules.Asking as asking
-use Rattle.station.specs.declared.Asked.TheVariants as answers
 
 -- what is kept of the whole ring
-pub record Ok (numbers : List ℕ) (stations : Stations) : Type 0 where
+pub record KeptRing (numbers : List ℕ) (stations : Stations) : Type 0 where
   pub each : (number : ℕ) → number ∈ numbers → InRing numbers number (stations number)
   -- equal watch times, and equal times since the watch restarted
   pub watch : (n m : ℕ) → n ∈ numbers → m ∈ numbers → (stations n).own.watch.0 ≡ (stations m).own.watch.0
@@ -101,7 +100,7 @@ module _ (numbers : List ℕ) (laws_next : (x : ℕ) → x ∈ numbers → next 
       pub idle_station : holds station ≡ false → (asking.ask_of station memory turn output).station ≡ station
       idle_station e = rw (lent, in_ring.participates, e)
 
-      pub idle_answer : holds station ≡ false → (asking.ask_of station memory turn output).answer ≡ answers.Refused refusals.NotDue
+      pub idle_answer : holds station ≡ false → (asking.ask_of station memory turn output).answer ≡ Err refusals.NotDue
       idle_answer e = rw (lent, in_ring.participates, e)
 
       within : ltb station.block (blocks_of station.own.areas) ≡ true
@@ -111,9 +110,9 @@ module _ (numbers : List ℕ) (laws_next : (x : ℕ) → x ∈ numbers → next 
       pub asked_station : holds station ≡ true → (asking.ask_of station memory turn output).station ≡ asking.block_sent station
       asked_station e = rw (lent, in_ring.participates, e, in_ring.areas, within)
 
-      pub asked_answer : holds station ≡ true → (asking.ask_of station memory turn output).answer ≡ answers.Octets (whole_length sends)
+      pub asked_answer : holds station ≡ true → (asking.ask_of station memory turn output).answer ≡ Ok (whole_length sends)
       asked_answer e = rw (lent, in_ring.participates, e, in_ring.areas, within)
 
       -- and what it writes reads back
-      pub asked_read : holds station ≡ true → read_of (take (whole_length sends) (asking.ask_of station memory turn output).output) ≡ Frame sends
+      pub asked_read : holds station ≡ true → read_of (take (whole_length sends) (asking.ask_of station memory turn output).output) ≡ Ok sends
       asked_read e = asked_back station memory turn output (whole_length sends) can_send (asked_answer e)

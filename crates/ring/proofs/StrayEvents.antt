@@ -12,7 +12,7 @@ use Rattle.station.specs.declared.Station.{Station}
 use Rattle.ring.specs.Counts.{Does}
 use Rattle.ring.specs.Events.{Stations, stray, after_event, Stray, refused, starts, harmless, CanCome}
 use Rattle.ring.specs.Member.{InRing}
-use Rattle.ring.proofs.Steps.{Ok}
+use Rattle.ring.proofs.Steps.{KeptRing}
 use Rattle.ring.specs.Strays.{Kept}
 use Rattle.station.proofs.Outcomes.HearCases as on_hearing_told
 use Rattle.ring.proofs.Strays.{unchanged, unchanged_if, refused_kept, start_kept, frame_kept}
@@ -24,7 +24,7 @@ module _ {numbers : List ℕ} {number : ℕ} {station : Station} (in_ring : InRi
   stray_kept (harmless octets memory assembly fields read plain from) =
       frame_kept in_ring fields read plain from (on_hearing_told.hear_cases station octets memory assembly)
 
-module _ (numbers : List ℕ) (stations : Stations) (ok : Ok numbers stations) (who : ℕ) (call : Call) (can : CanCome numbers stations (stray who call)) where
+module _ (numbers : List ℕ) (stations : Stations) (ok : KeptRing numbers stations) (who : ℕ) (call : Call) (can : CanCome numbers stations (stray who call)) where
   left_of : (n : ℕ) → n ∈ numbers → Kept numbers n (stations n) (after_event stations (stray who call) n)
   left_of n m = by (ℕ_discrete n who)
     where
@@ -41,7 +41,7 @@ module _ (numbers : List ℕ) (stations : Stations) (ok : Ok numbers stations) (
   brought_on n m true = brought_more (ok.brought who can.0) call
   brought_on n m false = ok.brought n m
 
-  pub stray_ok : Ok numbers (after_event stations (stray who call))
+  pub stray_ok : KeptRing numbers (after_event stations (stray who call))
   stray_ok = record {
     each = λ n m. (left_of n m).in_ring;
     watch = λ n k p q. ap (λ own. own.watch.0) (left_of n p).own ∙ ok.watch n k p q ∙ sym (ap (λ own. own.watch.0) (left_of k q).own);

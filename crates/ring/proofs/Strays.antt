@@ -1,5 +1,5 @@
 -- What is proved of the definitions in specs/Strays.antt.
-use Rattle.std.specs.Prelude.{◌≡◌}
+use Rattle.std.specs.Prelude.{Ok, ◌≡◌}
 use Rattle.laws.specs.Usual.{refl, sym, ap, subst, ◌∙◌, true, false, false≢true, List, ℕ}
 use Rattle.std.proofs.lemmas.Bool.{eqb-false}
 use Rattle.frame.specs.Codes.{is_cyclic}
@@ -14,7 +14,7 @@ use Rattle.station.specs.RefusedLeft.{Spared, same, turned_off}
 use Rattle.station.specs.Rules.State.{is_participating}
 use Rattle.station.proofs.States.ListKept.{set_either}
 use Rattle.station.specs.Rules.Waits.{counts_as}
-use Rattle.station.specs.Types.{Entry, Fields, Frame}
+use Rattle.station.specs.Types.{Entry, Fields}
 use Rattle.station.specs.declared.Station.{Station}
 use Rattle.ring.proofs.Lists.{ring_kept}
 use Rattle.ring.specs.Member.{InRing}
@@ -66,7 +66,7 @@ module _ {numbers : List ℕ} {number : ℕ} {station : Station} (in_ring : InRi
   }
 
   -- a trigger, or a request of a station of the ring
-  pub frame_kept : {octets memory assembly : List ℕ} {result : Hearing} (frame : Fields) → read_of octets ≡ Frame frame → is_cyclic frame.code ≡ false →
+  pub frame_kept : {octets memory assembly : List ℕ} {result : Hearing} (frame : Fields) → read_of octets ≡ Ok frame → is_cyclic frame.code ≡ false →
       (frame.code ≡ Request → (frame.source ∈ numbers) × ((counts_as frame.watch).0 ≡ station.own.watch.0)) → on_hearing.HearCases station octets memory assembly result →
       Kept numbers number station result.station
   frame_kept frame read plain from (on_hearing.refuses refusal) = unchanged

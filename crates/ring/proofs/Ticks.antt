@@ -19,10 +19,10 @@ use Rattle.ring.specs.Counts.{Does}
 use Rattle.ring.specs.Events.{Stations, ticked, after_event, ends_watch, CanCome}
 use Rattle.ring.specs.Member.{InRing}
 use Rattle.ring.proofs.Member.{next_same, restarted_in, one_time, missed_kept, missed_times}
-use Rattle.ring.proofs.Steps.{Ok}
+use Rattle.ring.proofs.Steps.{KeptRing}
 
 module _ (numbers : List ℕ) (laws_next : (x : ℕ) → x ∈ numbers → next numbers x ∈ numbers) (first_in : first_of numbers ∈ numbers)
-    (stations : Stations) (ok : Ok numbers stations) (can : CanCome numbers stations ticked) where
+    (stations : Stations) (ok : KeptRing numbers stations) (can : CanCome numbers stations ticked) where
   -- the watches run for one time, and so they end at all stations alike
   same_time : (n : ℕ) → n ∈ numbers → (watch_time (stations n)).0 ≡ (watch_time (stations (first_of numbers))).0
   same_time n m = one_time (ok.each n m) ∙ ok.watch n (first_of numbers) m first_in ∙ sym (one_time (ok.each (first_of numbers) first_in))
@@ -56,7 +56,7 @@ module _ (numbers : List ℕ) (laws_next : (x : ℕ) → x ∈ numbers → next 
         ≡ counted (stations n) (stations n).own (later longest_watch (stations n).elapsed) (stations n).waited (panel_ticked (stations n).panel)
     quiet n m = goes_on n m (alike n m ∙ e)
 
-    quiet_ok : Ok numbers (after_event stations ticked)
+    quiet_ok : KeptRing numbers (after_event stations ticked)
     quiet_ok = record {
       each = λ n m. subst (InRing numbers n) (sym (quiet n m)) (record {
         participates = (ok.each n m).participates;
@@ -84,7 +84,7 @@ module _ (numbers : List ℕ) (laws_next : (x : ℕ) → x ∈ numbers → next 
     ended_view : (n : ℕ) (m : n ∈ numbers) → next_after (stations n).own.number (stations n).members (stations n).view ≡ next numbers (stations n).view
     ended_view n m = next_same (ok.each n m) (stations n).view
 
-    ended_ok : Ok numbers (after_event stations ticked)
+    ended_ok : KeptRing numbers (after_event stations ticked)
     ended_ok = record {
       each = λ n m.
           subst (InRing numbers n) (sym (ended n m))
@@ -103,11 +103,11 @@ module _ (numbers : List ℕ) (laws_next : (x : ℕ) → x ∈ numbers → next 
         (λ x m d. eqb-false (stations x).view (stations x).own.number (can.0 x m (ends_is x m ∙ e)) (d ∙ sym (ok.each x m).own))
         (λ x m. ap (λ (s : Station). s.view) (ended x m) ∙ ended_view x m)
 
-  ticked_ok_if : (test : Bool) → watch_ends (stations (first_of numbers)) ≡ test → Ok numbers (after_event stations ticked)
+  ticked_ok_if : (test : Bool) → watch_ends (stations (first_of numbers)) ≡ test → KeptRing numbers (after_event stations ticked)
   ticked_ok_if true e = ended_ok e
   ticked_ok_if false e = quiet_ok e
 
-  pub ticked_ok : Ok numbers (after_event stations ticked)
+  pub ticked_ok : KeptRing numbers (after_event stations ticked)
   ticked_ok = ticked_ok_if (watch_ends (stations (first_of numbers))) refl
 
   ticked_does_if : (test : Bool) → watch_ends (stations (first_of numbers)) ≡ test → Does numbers stations ticked

@@ -1,27 +1,25 @@
 -- Paper 01, "The ring in demand 3": what is a pass and what is a silence, told from the octets that are written and from the watches. Their
 -- counts in a list of events, and what an event does to the views, are those of any ring that tells this much (`Counting` of settling).
-use Rattle.std.specs.Prelude.{◌∷◌}
+use Rattle.std.specs.Prelude.{Ok, Err, ◌∷◌}
 use Rattle.laws.specs.Usual.{[], Bool, false, cond, List, ℕ, take}
 use Rattle.frame.specs.Codes.{is_token}
 use Rattle.frame_reading.specs.Reading.{read_of}
 use Rattle.settling.specs.Counting.{Counting}
 use Rattle.station.specs.Rules.Asking.{ask_of}
-use Rattle.frame_reading.specs.declared.Read.{Read}
-use Rattle.station.specs.declared.Asked.{Asked}
+use Rattle.frame_reading.specs.Reading.{Read}
+use Rattle.station.specs.Types.{Asked}
 use Rattle.ring.specs.Events.{Stations, Event, asked, ticked, stray, after_event, views_of, ends_watch}
-use Rattle.frame_reading.specs.declared.Read.TheVariants as read
 use Rattle.settling.specs.Counting as counting
-use Rattle.station.specs.declared.Asked.TheVariants as answers
 
 -- whom octets give the token to: the destination, where they read as a frame of code 65000, else nobody
 abbrev pub token_to : Read → List ℕ
-token_to (read.Frame frame) = cond (is_token frame.code) (frame.destination ∷ []) []
-token_to (read.Refused refusal) = []
+token_to (Ok frame) = cond (is_token frame.code) (frame.destination ∷ []) []
+token_to (Err refusal) = []
 
 -- the octets are those that an asking wrote to the front of the output
 abbrev pub given_by : Asked → List ℕ → List ℕ
-given_by (answers.Octets count) output = token_to (read_of (take count output))
-given_by (answers.Refused refusal) output = []
+given_by (Ok count) output = token_to (read_of (take count output))
+given_by (Err refusal) output = []
 
 -- "A pass is an asking that writes code 65000; it gives the token to the destination." Whom an event gives it to: one station, or nobody
 -- where the event is no pass

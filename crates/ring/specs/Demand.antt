@@ -1,5 +1,5 @@
 -- Demand 3: its premises, the disturbed ring as the paper takes it, and its conclusion.
-use Rattle.std.specs.Prelude.{◌≡◌}
+use Rattle.std.specs.Prelude.{Ok, ◌≡◌}
 use Rattle.laws.specs.Usual.{true, List, ℕ, take}
 use Rattle.frame.specs.Codes.{is_token}
 use Rattle.members.specs.Members.{entry_of, ring_of}
@@ -10,8 +10,7 @@ use Rattle.station.specs.Rules.Asking.{ask_of}
 use Rattle.station.specs.Rules.Calls.{after, hear, ask, unrefused, verdict}
 use Rattle.station.specs.Rules.Waits.{counts_as}
 use Rattle.station.specs.States.Reachable.{Reachable, Typed}
-use Rattle.station.specs.declared.Asked.TheVariants.{Octets}
-use Rattle.station.specs.Types.{Fields, Frame}
+use Rattle.station.specs.Types.{Fields}
 use Rattle.station.specs.declared.Phase.TheVariants.{Participating}
 use Rattle.station.specs.declared.Station.{Station}
 use Rattle.ring.specs.Counts.{ring_counting}
@@ -20,7 +19,7 @@ use Rattle.ring.specs.Events.{Stations, Event}
 -- "brought there by whatever calls since off"; "each station's last call sent or heard the same token frame unrefused"
 pub data LastCall (octets : List ℕ) : Station → Type 0 where
   sent : (before : Station) (memory turn output : List ℕ) (count : ℕ) → Reachable before
-      → (ask_of before memory turn output).answer ≡ Octets count → take count (ask_of before memory turn output).output ≡ octets
+      → (ask_of before memory turn output).answer ≡ Ok count → take count (ask_of before memory turn output).output ≡ octets
       → LastCall octets (after before (ask memory turn output))
   heard : (before : Station) (memory assembly : List ℕ) → Reachable before → Typed (hear octets memory assembly)
       → verdict before (hear octets memory assembly) ≡ unrefused → LastCall octets (after before (hear octets memory assembly))
@@ -32,7 +31,7 @@ pub record Disturbed (numbers : List ℕ) (stations : Stations) : Type 0 where
   -- "all of which have just sent or heard one token frame"
   pub octets : List ℕ
   pub token : Fields
-  pub is_read : read_of octets ≡ Frame token
+  pub is_read : read_of octets ≡ Ok token
   pub is_token_lem : is_token token.code ≡ true
   pub last : (number : ℕ) → number ∈ numbers → LastCall octets (stations number)
   -- each station has its number

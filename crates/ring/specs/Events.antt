@@ -1,5 +1,5 @@
 -- Paper 01, "The ring in demand 3": what happens in a ring of full stations. Words in quotes are the paper's.
-use Rattle.std.specs.Prelude.{◌≡◌, ◌&&◌}
+use Rattle.std.specs.Prelude.{Ok, Err, ◌≡◌, ◌&&◌}
 use Rattle.laws.specs.Usual.{Bool, true, false, cond, List, ℕ, take, eqb}
 use Rattle.frame.specs.Codes.{is_cyclic}
 use Rattle.frame.specs.declared.Code.TheVariants.{Request}
@@ -10,13 +10,12 @@ use Rattle.station.specs.Rules.Calls.{Call, start, hear, after, refused_by, verd
 use Rattle.station.specs.Rules.State.{is_participating, holds}
 use Rattle.station.specs.Rules.Ticking.{tick_of, watch_ends}
 use Rattle.station.specs.Rules.Waits.{counts_as}
-use Rattle.station.specs.Types.{Fields, Refusal, Frame}
+use Rattle.station.specs.Types.{Fields, Refusal}
 use Rattle.station.specs.declared.Settings.{Settings}
 use Rattle.station.specs.declared.Station.{Station}
-use Rattle.station.specs.declared.Asked.{Asked}
+use Rattle.station.specs.Types.{Asked}
 use Rattle.station.specs.Rules.Asking as asking
 use Rattle.station.specs.Rules.Hearing as hearing
-use Rattle.station.specs.declared.Asked.TheVariants as answers
 
 -- the stations of a ring, by their numbers
 abbrev pub Stations : Type 0
@@ -36,8 +35,8 @@ pub data Event : Type 0 where
 
 -- "Refused, nobody is handed anything."
 abbrev pub handed : Station → Lent → Asked → List ℕ → Station
-handed station lent (answers.Octets count) output = (hearing.hear_of station (take count output) lent.memory lent.assembly).station
-handed station lent (answers.Refused refusal) output = station
+handed station lent (Ok count) output = (hearing.hear_of station (take count output) lent.memory lent.assembly).station
+handed station lent (Err refusal) output = station
 
 -- the stations after an event: "Each call gets the state that its station's last call left"
 abbrev pub after_event : Stations → Event → Stations
@@ -67,7 +66,7 @@ ends_watch station = is_participating station.phase && watch_ends station
 pub data Stray (numbers : List ℕ) (station : Station) : Call → Type 0 where
   refused : {call : Call} (refusal : Refusal) → verdict station call ≡ refused_by refusal → Stray numbers station call
   starts : (settings : Settings) → Stray numbers station (start settings)
-  harmless : (octets memory assembly : List ℕ) (fields : Fields) → read_of octets ≡ Frame fields → is_cyclic fields.code ≡ false
+  harmless : (octets memory assembly : List ℕ) (fields : Fields) → read_of octets ≡ Ok fields → is_cyclic fields.code ≡ false
       → (fields.code ≡ Request → (fields.source ∈ numbers) × ((counts_as fields.watch).0 ≡ station.own.watch.0))
       → Stray numbers station (hear octets memory assembly)
 

@@ -3,7 +3,7 @@
 -- station 3 still holds. Each of these events could come but for the time of that request: no holder's watch ends, and nobody is missed three
 -- times running. Assumes nothing.
 use Rattle.laws.specs.Usual.{refl, sym, ◌∙◌, Bool, true, false, cond, List, [], ℕ, suc, arith, replicate, eqb}
-use Rattle.std.specs.Prelude.{◌≡◌, ◌&&◌, ◌∷◌, zero}
+use Rattle.std.specs.Prelude.{Ok, ◌≡◌, ◌&&◌, ◌∷◌, zero}
 use Rattle.std.proofs.Common.{append-nil}
 use Rattle.frame.specs.Codes.{is_cyclic}
 use Rattle.frame_reading.specs.Reading.{fields_of, read_of}
@@ -16,7 +16,7 @@ use Rattle.settling.specs.Ring.{◌∈◌}
 use Rattle.settling.specs.Steps.{after_all, EachFinds}
 use Rattle.station.specs.Rules.Calls.{Call, tick, after, unrefused, verdict}
 use Rattle.station.specs.Rules.Waits.{counts_as}
-use Rattle.station.specs.Types.{Fields, Frame}
+use Rattle.station.specs.Types.{Fields}
 use Rattle.ring_worked.specs.Bringing.{token_octets, hears, one_heard, three_heard, numbers, at_1, at_3, each}
 use Rattle.ring.specs.Demand.{Disturbed, RingSettles}
 use Rattle.ring.proofs.DemandThree.{left_by_calls}
@@ -59,7 +59,7 @@ pub is_heard : verdict (stations 1) (hears octets) ≡ unrefused
 unfolding header_of front_of back_of fixed_for fields_of
 is_heard = refl
 
-pub is_read : (read_of octets ≡ Frame request) × (is_cyclic request.code ≡ false) × (request.source ∈ numbers)
+pub is_read : (read_of octets ≡ Ok request) × (is_cyclic request.code ≡ false) × (request.source ∈ numbers)
 unfolding header_of front_of back_of fixed_for fields_of read_of
 is_read = (refl, refl, at_3)
 

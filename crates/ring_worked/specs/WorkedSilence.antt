@@ -23,7 +23,7 @@ use Rattle.ring.proofs.DemandThree.{left_by_calls, demand_three}
 use Rattle.ring.specs.Events.{Stations, Event, ticked, after_event, AllName, ends_watch, CanCome}
 use Rattle.ring.specs.Member.{InRing}
 use Rattle.ring.proofs.Settles.{settles_from}
-use Rattle.ring.proofs.Steps.{Ok}
+use Rattle.ring.proofs.Steps.{KeptRing}
 use Rattle.ring_worked.specs.Worked.{Fits, disturbed, passed_on, others_1, others_2, others_3, two_fits, asks_one, can_come}
 
 -- a station whose watch ends does not hold, and strikes nobody
@@ -179,7 +179,7 @@ cycle_brought =
     (reached_brought (two_reached (token_octets 1 3) refl))
     (reached_brought (three_reached (token_octets 2 1) refl))
 
-cycle_ok : Ok numbers cycle
+cycle_ok : KeptRing numbers cycle
 unfolding header_of front_of back_of fixed_for fields_of
 cycle_ok = record {
   each =

@@ -7,7 +7,7 @@ use members::Members;
 use panel::Panel;
 use units::{Milliseconds, Ticks};
 
-#[derive(Clone, Copy)]
+#[derive(Clone, Copy, PartialEq, Eq)]
 pub enum Phase {
     Off,
     Listening,
@@ -25,9 +25,9 @@ pub struct Settings {
     pub watch: Milliseconds,
 }
 
-// What has been put together of a turn: whose it is, and how many of its blocks. Source 0 is nobody's.
+// What has been put together of a turn: whose it is, and how many of its blocks. Source 0 is nobody's: C keeps the two numbers, and no Option.
 #[repr(C)]
-#[derive(Clone, Copy)]
+#[derive(Clone, Copy, PartialEq, Eq)]
 pub struct Gathering {
     pub source: u8,
     pub blocks: u8,
@@ -54,21 +54,21 @@ pub struct Station {
     pub panel: Panel,
 }
 
-// What start and stop answer.
+// A call of a station: the state after it, and the answer.
 #[derive(Clone, Copy)]
-pub enum Switched {
-    Done,
-    Refused(Refusal),
+pub struct Answered<A> {
+    pub station: Station,
+    pub answer: A,
 }
 
-#[derive(Clone, Copy)]
+#[derive(Clone, Copy, PartialEq, Eq)]
 pub enum Ticked {
     Off,
     Done,
 }
 
 // What became of a cyclic frame's data.
-#[derive(Clone, Copy)]
+#[derive(Clone, Copy, PartialEq, Eq)]
 pub enum Data {
     Kept,
     Written,
@@ -77,7 +77,7 @@ pub enum Data {
 }
 
 // "has what became of the token (none, passed on, ours now": each case carries what became of the data (paper 01, list of forms).
-#[derive(Clone, Copy)]
+#[derive(Clone, Copy, PartialEq, Eq)]
 pub enum Token {
     None(Data),
     PassedOn(Data),
@@ -86,17 +86,11 @@ pub enum Token {
     RivalWon(Data),
 }
 
+// No Result: a refusal is one of four answers, and off and done say nothing that an Ok could hold.
 #[derive(Clone, Copy)]
 pub enum Heard {
     Off,
     Done,
     Cyclic(Token),
-    Refused(Refusal),
-}
-
-// The octets of the frame that was written, or why there is none.
-#[derive(Clone, Copy)]
-pub enum Asked {
-    Octets(usize),
     Refused(Refusal),
 }

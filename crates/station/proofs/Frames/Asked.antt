@@ -1,5 +1,5 @@
 -- Every frame that is asked for reads back to the fields that are meant. Assumes nothing.
-use Rattle.std.specs.Prelude.{◌≡◌, ◌&&◌, ◌*◌, ◌≤◌}
+use Rattle.std.specs.Prelude.{Ok, ◌≡◌, ◌&&◌, ◌*◌, ◌≤◌}
 use Rattle.laws.specs.Usual.{sym, ap, ◌∙◌, Bool, true, false, cond, List, ℕ, arith, length, take, drop, eqb, leb}
 use Rattle.std.proofs.Common.{length-append, length-take, length-drop, take_at, le-leb, eqb-true, leb-true}
 use Rattle.area.specs.Areas.{memory_octets, span_of}
@@ -16,9 +16,8 @@ use Rattle.frame_writing.specs.Writing.{frame_of, output_of, whole_length}
 use Rattle.station.proofs.Outcomes.AskCases.{ask_cases}
 use Rattle.station.specs.Outcomes.AskCases.{SendCases, triggers, requests, begins, passes, AskCases, refuses, sends}
 use Rattle.station.specs.Rules.Asking.{Asking, due_fields, next_block, next_station, ask_of}
-use Rattle.station.specs.declared.Asked.TheVariants.{Octets}
 use Rattle.station.specs.Rules.Data.{turn_of}
-use Rattle.station.specs.Types.{Areas, Fields, Frame, Station}
+use Rattle.station.specs.Types.{Areas, Fields, Station}
 use Rattle.station.specs.Frames.Asked.{CanSend}
 
 -- the copy of a turn is no longer than the turn
@@ -58,7 +57,7 @@ module _ (station : Station) (can : CanSend station) (memory turn : List ℕ) (w
   -- the frame that is due: its data are there, and few enough, and it reads back
   due_back : {left : Station} {fields : Fields} {copy : List ℕ} → SendCases station memory turn left fields copy → length copy ≡ memory_octets
       → (data_size fields ≤ length (drop (start_of (next_block station)) copy)) × (data_size fields ≤ 1024)
-      × (read_of (frame_of fields (drop (start_of (next_block station)) copy)) ≡ Frame fields)
+      × (read_of (frame_of fields (drop (start_of (next_block station)) copy)) ≡ Ok fields)
   due_back (triggers e due) long = (omega arith, omega arith, trigger_back station.own.number can.number)
   due_back (requests e fallen) long =
       (omega arith, omega arith, request_back station.own.number can.number station.own.areas can.areas station.own.watch)
@@ -76,12 +75,12 @@ module _ (station : Station) (can : CanSend station) (memory turn : List ℕ) (w
 
 -- What an asking writes reads back to the fields of the frame that is due.
 pub asked_back : (station : Station) (memory turn output : List ℕ) (count : ℕ) → CanSend station →
-    (ask_of station memory turn output).answer ≡ Octets count →
-    read_of (take count (ask_of station memory turn output).output) ≡ Frame (due_fields station.phase station)
+    (ask_of station memory turn output).answer ≡ Ok count →
+    read_of (take count (ask_of station memory turn output).output) ≡ Ok (due_fields station.phase station)
 asked_back station memory turn output count can = by (ask_cases station memory turn output)
   where
-    by : {result : Asking} → AskCases station memory turn output result → result.answer ≡ Octets count →
-        read_of (take count result.output) ≡ Frame (due_fields station.phase station)
+    by : {result : Asking} → AskCases station memory turn output result → result.answer ≡ Ok count →
+        read_of (take count result.output) ≡ Ok (due_fields station.phase station)
     by (refuses refusal) e = let z : ◌≡◌ {A = ℕ} 0 1 = cc in absurd (omega arith)
     by (sends {fields = fields} {copy} lent is sent) e =
         let sizes = first (eqb (length memory) memory_octets && eqb (length turn) memory_octets) (leb 1088 (length output)) lent in
@@ -91,4 +90,4 @@ asked_back station memory turn output count can = by (ask_cases station memory t
         let same : whole_length fields ≡ count = cc in
         ap (λ (n : ℕ). read_of (take n (output_of fields (drop (start_of (next_block station)) copy) output))) (sym same)
         ∙ ap read_of (front_written fields (drop (start_of (next_block station)) copy) output back.0 (omega (arith, back.1)))
-        ∙ back.2 ∙ ap Frame (sym is)
+        ∙ back.2 ∙ ap Ok (sym is)

@@ -1,5 +1,5 @@
 -- Every frame asked for is accepted by whoever knows its sender and its destination. Assumes nothing.
-use Rattle.std.specs.Prelude.{◌≡◌, ◌&&◌, ◌||◌}
+use Rattle.std.specs.Prelude.{Ok, ◌≡◌, ◌&&◌, ◌||◌}
 use Rattle.laws.specs.Usual.{refl, ap, ◌∙◌, true, false, not, List, ℕ, arith, length, take, eqb}
 use Rattle.std.proofs.Math.Bool.{and-false, and-true}
 use Rattle.std.proofs.Common.{ne_eqb, lt-ltb}
@@ -23,18 +23,17 @@ use Rattle.station.proofs.States.ListKept.{next_station_lem}
 use Rattle.station.specs.States.Reachable.{Reachable}
 use Rattle.station.proofs.RefusedLeft.{accepted_unrefused}
 use Rattle.station.specs.Rules.State.{is_participating, is_off, holds}
-use Rattle.station.specs.declared.Asked.TheVariants.{Octets}
-use Rattle.station.specs.Types.{Fields, Code, Frame, Participating, Station}
+use Rattle.station.specs.Types.{Fields, Code, Participating, Station}
 use Rattle.station.specs.Frames.FrameAccepted.{Listens}
 
 -- octets that are read as fields pass both parts of the reading
-pub header_read : {s : List ℕ} {fields : Fields} → Accepted s fields → read_header_of s ≡ Frame fields
+pub header_read : {s : List ℕ} {fields : Fields} → Accepted s fields → read_header_of s ≡ Ok fields
 header_read a = simp (a.is_whole, a.is_marked, a.is_long, a.is_coded, a.holds, a.is_addressed)
 
-pub body_read : {s : List ℕ} {fields : Fields} → Accepted s fields → read_body_of (length s) fields ≡ Frame fields
+pub body_read : {s : List ℕ} {fields : Fields} → Accepted s fields → read_body_of (length s) fields ≡ Ok fields
 body_read {s} {fields} a = body_reads (length s) fields a.is_ranged a.is_blocked
 
-module _ (listener : Station) (octets memory assembly : List ℕ) (frame : Fields) (read : read_of octets ≡ Frame frame)
+module _ (listener : Station) (octets memory assembly : List ℕ) (frame : Fields) (read : read_of octets ≡ Ok frame)
     (lent : lent_right memory assembly ≡ true) (listens : Listens listener frame) where
   -- neither 6 nor 9
   one_verdict : is_taken listener frame ≡ false
@@ -93,7 +92,7 @@ holder_due station reached e =
 
 -- an off station has no frame due
 asked_on : {station : Station} {memory turn output : List ℕ} {result : Asking} {count : ℕ} → AskCases station memory turn output result →
-    result.answer ≡ Octets count → is_off station.phase ≡ false
+    result.answer ≡ Ok count → is_off station.phase ≡ false
 asked_on (refuses refusal) a = let z : ◌≡◌ {A = ℕ} 0 1 = cc in absurd (omega arith)
 asked_on (sends lent is (triggers e due)) a = rw e
 asked_on (sends lent is (requests e fallen)) a = rw e
@@ -102,15 +101,15 @@ asked_on (sends lent is (passes e held placed)) a = rw e
 
 -- Of every state that calls can leave: what an asking writes reads back to the fields of the frame that is due,
 pub frame_asked : (station : Station) → Reachable station → (memory turn output : List ℕ) (count : ℕ) →
-    (ask_of station memory turn output).answer ≡ Octets count →
-    read_of (take count (ask_of station memory turn output).output) ≡ Frame (due_fields station.phase station)
+    (ask_of station memory turn output).answer ≡ Ok count →
+    read_of (take count (ask_of station memory turn output).output) ≡ Ok (due_fields station.phase station)
 frame_asked station reached memory turn output count e =
     asked_back station memory turn output count (can_send station reached (asked_on (ask_cases station memory turn output) e)) e
 
 -- and every participant that lists the sender, and lists the destination or is it, and is not the sender, accepts it; a request or a trigger
 -- is accepted by every participant that is not the sender.
 pub frame_accepted : (station : Station) → Reachable station → (memory turn output : List ℕ) (count : ℕ) →
-    (ask_of station memory turn output).answer ≡ Octets count →
+    (ask_of station memory turn output).answer ≡ Ok count →
     (listener : Station) → Listens listener (due_fields station.phase station) →
     (common assembly : List ℕ) → lent_right common assembly ≡ true →
     verdict listener (hear (take count (ask_of station memory turn output).output) common assembly) ≡ unrefused

@@ -1,5 +1,5 @@
 -- A block heard twice (paper 02, E4): a block that was kept, heard once more, is passed over, and so is each further copy. Assumes nothing.
-use Rattle.std.specs.Prelude.{◌≡◌, ◌||◌, ◌+◌, ◌≤◌}
+use Rattle.std.specs.Prelude.{Ok, ◌≡◌, ◌||◌, ◌+◌, ◌≤◌}
 use Rattle.laws.specs.Usual.{refl, sym, ap, subst, ◌∙◌, Bool, true, false, false≢true, List, ℕ, arith, length, take, drop, eqb}
 use Rattle.std.proofs.lemmas.Bool.{eqb-false}
 use Rattle.std.proofs.Common.{eq-eqb}
@@ -25,7 +25,7 @@ use Rattle.station.specs.Rules.Data.{same_areas, gathered, repeated}
 use Rattle.station.specs.Rules.Hearing.{Hearing, knows, participant_heard, hear_of}
 use Rattle.station.specs.Rules.Token.{view_heard, restarted, outcome_of}
 use Rattle.station.proofs.States.ListKept.{set_either}
-use Rattle.station.specs.Types.{Fields, Frame, Entry, Gathering, Station, Data, Kept, Written, Dropped, Repeat, Token}
+use Rattle.station.specs.Types.{Fields, Entry, Gathering, Station, Data, Kept, Written, Dropped, Repeat, Token}
 use Rattle.block.specs.Cut as cut
 use Rattle.frame_reading.specs.Reading as reading
 use Rattle.station.specs.declared.Heard.TheVariants as heard
@@ -33,7 +33,7 @@ use Rattle.station.specs.declared.Heard.TheVariants as heard
 -- The octets, heard in this state with these buffers and this result, are a frame whose block is passed over.
 pub record PassedOver (station : Station) (octets memory assembly : List ℕ) (result : Hearing) : Type 0 where
   pub frame : Fields
-  pub read : read_of octets ≡ Frame frame
+  pub read : read_of octets ≡ Ok frame
   -- the data outcome is "repeat"; what became of the token goes by the old rule
   pub answer : result.answer ≡ heard.Cyclic (outcome_of station frame Repeat)
   pub outcome : data_of (outcome_of station frame Repeat) ≡ Repeat
@@ -50,7 +50,7 @@ abbrev pub Again : Station → List ℕ → List ℕ → List ℕ → Type 0
 Again station octets memory assembly = PassedOver station octets memory assembly (hear_of station octets memory assembly)
 
 module _ (station : Station) (octets memory assembly : List ℕ) where
-  unmoved : (frame : Fields) → read_of octets ≡ Frame frame
+  unmoved : (frame : Fields) → read_of octets ≡ Ok frame
       → PassedOver station octets memory assembly (participant_heard station frame (repeated station.gathering assembly memory))
   unmoved frame whole = record {
     frame = frame;
@@ -110,7 +110,7 @@ module _ {station : Station} {octets memory assembly : List ℕ} {frame : Fields
     abbrev after : Station
     after = restarted station (cleared station.members frame.source) (view_heard station.view frame) gathering station.panel
 
-    whole : read_of octets ≡ Frame frame
+    whole : read_of octets ≡ Ok frame
     whole = reads (whole_of from.accepts)
 
     gathered_same : gathered after frame (reading.data_of octets frame) stored common ≡ repeated gathering stored common

@@ -1,5 +1,5 @@
 -- "Our own areas are never written by a frame": what hearing a frame does to the common memory. Assumes nothing.
-use Rattle.std.specs.Prelude.{◌≡◌}
+use Rattle.std.specs.Prelude.{Ok, ◌≡◌}
 use Rattle.laws.specs.Usual.{refl, sym, ap, ◌∙◌, Bool, true, false, cond, not, false≢true, List, ℕ, length, eqb}
 use Rattle.copying.specs.Pasted.{pasted}
 use Rattle.frame.specs.Codes.{is_token, is_cyclic}
@@ -12,7 +12,7 @@ use Rattle.station.proofs.Outcomes.HearCases.{entering, hear_cases}
 use Rattle.station.specs.Rules.Hearing.{Hearing, lent_right, hear_of}
 use Rattle.station.specs.Rules.State.{is_participating}
 use Rattle.station.specs.Rules.Token.{view_heard, takes, outcome_of}
-use Rattle.station.specs.Types.{Fields, Frame, Station, Data, Kept, Written, Dropped, Repeat, Token, Heard}
+use Rattle.station.specs.Types.{Fields, Station, Data, Kept, Written, Dropped, Repeat, Token, Heard}
 use Rattle.block.specs.Blocks as blocks
 use Rattle.frame_reading.specs.Reading as reading
 use Rattle.station.specs.declared.Heard.TheVariants as heard
@@ -35,8 +35,8 @@ says test (heard.Refused refusal) = false
 -- what the octets say, and what is known of the sender, where a turn is written
 pub record Whole (station : Station) (octets memory assembly : List ℕ) (frame : Fields) : Type 0 where
   -- the octets are read as this frame
-  pub header : read_header_of octets ≡ Frame frame
-  pub body : read_body_of (length octets) frame ≡ Frame frame
+  pub header : read_header_of octets ≡ Ok frame
+  pub body : read_body_of (length octets) frame ≡ Ok frame
   pub lent : lent_right memory assembly ≡ true
   -- we participate, and the frame is cyclic
   pub participating : is_participating station.phase ≡ true

@@ -1,5 +1,5 @@
 -- A block heard twice (paper 02, E4): a cyclic frame's data outcome is "repeat" exactly where the rule says so. Assumes nothing.
-use Rattle.std.specs.Prelude.{◌≡◌, ◌&&◌, ◌<◌, ◌≤◌}
+use Rattle.std.specs.Prelude.{Ok, ◌≡◌, ◌&&◌, ◌<◌, ◌≤◌}
 use Rattle.laws.specs.Usual.{refl, sym, ap, subst, ◌∙◌, true, false≢true, List, ℕ, arith, length, take, drop, eqb}
 use Rattle.std.proofs.Common.{eqb-true, eq-eqb, ne_eqb}
 use Rattle.laws.specs.Tests.{first, second, both}
@@ -19,7 +19,7 @@ use Rattle.station.proofs.States.KeepsEntering.{same_blocks}
 use Rattle.station.proofs.States.KeepsStarting.{station_from}
 use Rattle.station.specs.States.Reachable.{Reachable, Sound}
 use Rattle.station.proofs.States.Sound.{sound}
-use Rattle.station.specs.Types.{Fields, Frame, Station, Data, Kept, Written, Dropped, Repeat, Token, Heard}
+use Rattle.station.specs.Types.{Read, Fields, Station, Data, Kept, Written, Dropped, Repeat, Token, Heard}
 use Rattle.station.specs.Memory.RepeatSaid.{Repeats, is_repeated, any}
 use Rattle.block.specs.Cut as cut
 use Rattle.frame_reading.specs.Reading as reading
@@ -54,7 +54,7 @@ repeat_is Written e = absurd (false≢true e)
 repeat_is Dropped e = absurd (false≢true e)
 repeat_is Repeat e = refl
 
-same_frame : {f g : Fields} → Frame f ≡ Frame g → f ≡ g
+same_frame : {f g : Fields} → ◌≡◌ {A = Read} (Ok f) (Ok g) → f ≡ g
 same_frame e = cc
 
 module _ (station : Station) (octets memory assembly : List ℕ) where

@@ -1,5 +1,5 @@
 -- The outcomes of hearing a frame, each with what led there and what is left: whatever is proved of hearing goes by these. Assumes nothing.
-use Rattle.std.specs.Prelude.{◌≡◌, ◌&&◌, ◌||◌}
+use Rattle.std.specs.Prelude.{Ok, Err, ◌≡◌, ◌&&◌, ◌||◌}
 use Rattle.laws.specs.Usual.{refl, sym, ap, ◌∙◌, Bool, true, false, cond, not, List, ℕ, length, eqb}
 use Rattle.std.proofs.lemmas.Bool.{not-false}
 use Rattle.block.specs.Blocks.{start_of}
@@ -15,14 +15,14 @@ use Rattle.station.specs.Rules.Data.{turn_written, same_areas, is_next, repeated
 use Rattle.station.specs.Rules.Hearing.{requested, enters, enters_answer, participant_heard, accepted, is_taken, knows, is_stranger, lent_right, refused, body_heard, header_heard, hear_of}
 use Rattle.station.specs.Rules.Starting.{joined_by}
 use Rattle.station.specs.Rules.State.{fresh, is_off, is_participating, nothing, stopped}
-use Rattle.station.specs.Types.{Heard, Dropped, Areas, Fields, Code, Read, Frame, Refused, Phase, Off, Listening, Startup, Joining, Participating, Station, Kept, Written}
+use Rattle.station.specs.Types.{Heard, Dropped, Areas, Fields, Code, Read, Phase, Off, Listening, Startup, Joining, Participating, Station, Kept, Written}
 use Rattle.station.specs.Outcomes.HearCases.{EnterCases, Accepts, FromMember, repeats?, GatherCases, writes, keeps, repeats, drops, Awaits, listening_awaits, startup_awaits, Lists, startup_lists, participant_lists, Unnamed, listening_request, startup_trigger, joining_request, joining_trigger, participating_trigger, off, begins, joins, passes, reads, lists, ignores, HearCases, refuses, turns_off, gathers, heeds}
 use Rattle.frame.specs.declared.Refusal.TheVariants as refusals
 use Rattle.station.specs.declared.Heard.TheVariants as answers
 use Rattle.station.specs.declared.Token.TheVariants as tokens
 
 -- octets that pass both parts of the reading pass every test
-pub read_both : (octets : List ℕ) (frame : Fields) → read_header_of octets ≡ Frame frame → read_body_of (length octets) frame ≡ Frame frame → Accepted octets frame
+pub read_both : (octets : List ℕ) (frame : Fields) → read_header_of octets ≡ Ok frame → read_body_of (length octets) frame ≡ Ok frame → Accepted octets frame
 unfolding read_of
 read_both octets frame h b = passed octets frame (ap (λ (r : Read). and_then r (read_body_of (length octets))) h ∙ b)
 
@@ -124,10 +124,10 @@ module _ (station : Station) (octets memory assembly : List ℕ) where
       by Participating p Request c = heeds frame ok (lists (rw p participant_lists) c)
       by Participating p Trigger c = heeds frame ok (ignores (rw (p, c) participating_trigger))
 
-  body_cases : (header : Fields) → lent_right memory assembly ≡ true → read_header_of octets ≡ Frame header → is_taken station header ≡ false
+  body_cases : (header : Fields) → lent_right memory assembly ≡ true → read_header_of octets ≡ Ok header → is_taken station header ≡ false
       → (read : Read) → read_body_of (length octets) header ≡ read → HearCases station octets memory assembly (body_heard station octets memory assembly read)
-  body_cases header l h t (Refused refusal) b = refuses refusal
-  body_cases header l h t (Frame frame) b = by (is_stranger station frame) refl
+  body_cases header l h t (Err refusal) b = refuses refusal
+  body_cases header l h t (Ok frame) b = by (is_stranger station frame) refl
     where
       same : header ≡ frame
       same = (bodied (length octets) header frame b).is_same
@@ -137,7 +137,7 @@ module _ (station : Station) (octets memory assembly : List ℕ) where
       by true s = refuses refusals.Stranger
       by false s = accepted_cases frame (record {
         lent = l;
-        header = h ∙ ap Frame same;
+        header = h ∙ ap Ok same;
         body = ap (read_body_of (length octets)) (sym same) ∙ b;
         untaken = ap (is_taken station) (sym same) ∙ t;
         known = s;
@@ -145,8 +145,8 @@ module _ (station : Station) (octets memory assembly : List ℕ) where
 
   header_cases : lent_right memory assembly ≡ true → (read : Read) → read_header_of octets ≡ read
       → HearCases station octets memory assembly (header_heard station octets memory assembly read)
-  header_cases l (Refused refusal) h = refuses refusal
-  header_cases l (Frame header) h = by (is_taken station header) refl (is_participating station.phase) refl
+  header_cases l (Err refusal) h = refuses refusal
+  header_cases l (Ok header) h = by (is_taken station header) refl (is_participating station.phase) refl
     where
       by : (taken : Bool) → is_taken station header ≡ taken → (participating : Bool) → is_participating station.phase ≡ participating
           → HearCases station octets memory assembly

@@ -1,10 +1,10 @@
 -- What the assembly buffer holds while a turn is gathered: the data of blocks 1, 2, .. of one source, in order. Assumes nothing.
-use Rattle.std.specs.Prelude.{◌≡◌, ◌∷◌, ◌++◌, ◌+◌, ◌*◌}
+use Rattle.std.specs.Prelude.{Ok, ◌≡◌, ◌∷◌, ◌++◌, ◌+◌, ◌*◌}
 use Rattle.laws.specs.Usual.{[], true, false, List, ℕ, length, take, eqb}
 use Rattle.frame.specs.Codes.{is_cyclic}
 use Rattle.frame_reading.specs.Reading.{read_header_of, read_body_of}
 use Rattle.station.specs.Rules.Answers.{data_of}
-use Rattle.station.specs.Types.{Fields, Frame, Gathering, Data, Kept, Written, Dropped, Repeat, Heard}
+use Rattle.station.specs.Types.{Fields, Gathering, Data, Kept, Written, Dropped, Repeat, Heard}
 use Rattle.frame_reading.specs.Reading as reading
 use Rattle.station.specs.declared.Heard.TheVariants as answers
 
@@ -26,7 +26,7 @@ accepted_after (answers.Refused refusal) octets heard = heard
 pub data Parts (source : ℕ) : List (List ℕ) → ℕ → List ℕ → Type 0 where
   none : {heard : List (List ℕ)} → Parts source heard 0 []
   more : {heard : List (List ℕ)} {n : ℕ} {part : List ℕ} → Parts source heard n part → (octets : List ℕ) (frame : Fields)
-      → read_header_of octets ≡ Frame frame → read_body_of (length octets) frame ≡ Frame frame → is_cyclic frame.code ≡ true → frame.source ≡ source → frame.block ≡ n + 1
+      → read_header_of octets ≡ Ok frame → read_body_of (length octets) frame ≡ Ok frame → is_cyclic frame.code ≡ true → frame.source ≡ source → frame.block ≡ n + 1
       → Parts source (octets ∷ heard) frame.block (part ++ reading.data_of octets frame)
 
 -- what is gathered stands at the front of the assembly buffer

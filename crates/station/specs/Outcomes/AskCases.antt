@@ -1,5 +1,5 @@
 -- The outcomes of asking for a frame, each with what led there and what is left: whatever is proved of asking goes by these. Assumes nothing.
-use Rattle.std.specs.Prelude.{◌≡◌}
+use Rattle.std.specs.Prelude.{Ok, ◌≡◌}
 use Rattle.laws.specs.Usual.{true, List, ℕ, drop}
 use Rattle.block.specs.Blocks.{start_of}
 use Rattle.frame_round_trip.specs.Sent.{request_fields, trigger_fields}
@@ -8,7 +8,6 @@ use Rattle.station.specs.Rules.Asking.{Asking, next_fields, turn_for, is_placed,
 use Rattle.station.specs.Rules.Starting.{trigger_due, request_fallen}
 use Rattle.station.specs.Rules.State.{fresh, holds, begun, request_sent}
 use Rattle.station.specs.Types.{Fields, Refusal, Listening, Startup, Joining, Participating, Station}
-use Rattle.station.specs.declared.Asked.TheVariants as answers
 
 -- a frame that is due: what sending it leaves, its fields, and the turn buffer that it is sent from
 pub data SendCases (station : Station) (memory turn : List ℕ) : Station → Fields → List ℕ → Type 0 where
@@ -29,7 +28,7 @@ pub data AskCases (station : Station) (memory turn output : List ℕ) : Asking �
   sends : {left : Station} {fields : Fields} {copy : List ℕ} → lent_right memory turn output ≡ true → due_fields station.phase station ≡ fields
       → SendCases station memory turn left fields copy → AskCases station memory turn output (record {
         station = left;
-        answer = answers.Octets (whole_length fields);
+        answer = Ok (whole_length fields);
         turn = copy;
         output = output_of fields (drop (start_of (next_block station)) copy) output;
       })

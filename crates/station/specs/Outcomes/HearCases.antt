@@ -1,5 +1,5 @@
 -- The outcomes of hearing a frame, each with what led there and what is left: whatever is proved of hearing goes by these. Assumes nothing.
-use Rattle.std.specs.Prelude.{◌≡◌, ◌&&◌}
+use Rattle.std.specs.Prelude.{Ok, ◌≡◌, ◌&&◌}
 use Rattle.laws.specs.Usual.{Bool, true, false, List, ℕ, length, eqb}
 use Rattle.block.specs.Blocks.{start_of}
 use Rattle.copying.specs.Pasted.{pasted}
@@ -11,7 +11,7 @@ use Rattle.station.specs.Rules.Data.{Gathered, turn_written, same_areas, is_next
 use Rattle.station.specs.Rules.Hearing.{Hearing, requested, participant_heard, is_taken, knows, is_stranger, lent_right, refused}
 use Rattle.station.specs.Rules.Starting.{joined_by}
 use Rattle.station.specs.Rules.State.{is_participating, nothing, fresh, stopped}
-use Rattle.station.specs.Types.{Fields, Code, Refusal, Frame, Phase, Off, Listening, Startup, Joining, Participating, Station, Kept, Written, Dropped, Heard}
+use Rattle.station.specs.Types.{Fields, Code, Refusal, Phase, Off, Listening, Startup, Joining, Participating, Station, Kept, Written, Dropped, Heard}
 use Rattle.frame.specs.declared.Refusal.TheVariants as refusals
 use Rattle.station.specs.declared.Heard.TheVariants as answers
 use Rattle.station.specs.declared.Token.TheVariants as tokens
@@ -19,8 +19,8 @@ use Rattle.station.specs.declared.Token.TheVariants as tokens
 -- a frame that no refusal met
 pub record Accepts (station : Station) (octets memory assembly : List ℕ) (frame : Fields) : Type 0 where
   pub lent : lent_right memory assembly ≡ true
-  pub header : read_header_of octets ≡ Frame frame
-  pub body : read_body_of (length octets) frame ≡ Frame frame
+  pub header : read_header_of octets ≡ Ok frame
+  pub body : read_body_of (length octets) frame ≡ Ok frame
   pub untaken : is_taken station frame ≡ false
   pub known : is_stranger station frame ≡ false
 

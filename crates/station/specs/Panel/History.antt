@@ -1,13 +1,12 @@
 -- Paper 01, "The panel", told from the list of calls since off and the views before and after each. Nothing here looks at the panel that the
 -- state carries.
-use Rattle.std.specs.Prelude.{◌&&◌, ◌||◌, ◌∷◌, ◌-◌}
+use Rattle.std.specs.Prelude.{Ok, Err, ◌&&◌, ◌||◌, ◌∷◌, ◌-◌}
 use Rattle.laws.specs.Usual.{[], Bool, true, false, cond, not, List, ℕ, suc, eqb, ltb}
 use Rattle.frame.specs.Codes.{is_token}
 use Rattle.panel.specs.declared.Figure.TheVariants.{Nothing, Over, Gap}
 use Rattle.station.specs.Rules.Asking.{ask_of, due_fields}
 use Rattle.station.specs.Rules.Calls.{Call, start, stop, tick, hear, ask, after}
 use Rattle.station.specs.Rules.State.{is_participating, holds, never}
-use Rattle.station.specs.declared.Asked.TheVariants.{Octets, Refused}
 use Rattle.station.specs.Types.{Fields, Figure, Station, Asked}
 
 -- the state after a list of calls, made one after the other
@@ -56,8 +55,8 @@ abbrev pub writes_to_us : Station → Fields → Bool
 writes_to_us station frame = is_token frame.code && eqb frame.destination station.own.number
 
 abbrev pub passed_by : Station → Asked → Bool
-passed_by station (Octets count) = writes_to_us station (due_fields station.phase station)
-passed_by station (Refused refusal) = false
+passed_by station (Ok count) = writes_to_us station (due_fields station.phase station)
+passed_by station (Err refusal) = false
 
 abbrev pub passes : Station → Call → Bool
 passes station (start settings) = false

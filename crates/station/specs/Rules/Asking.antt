@@ -1,5 +1,5 @@
 -- Asking for a frame (paper 01, "Starting and joining", "The token view and the watch").
-use Rattle.std.specs.Prelude.{◌&&◌, ◌+◌}
+use Rattle.std.specs.Prelude.{Ok, Err, ◌&&◌, ◌+◌}
 use Rattle.laws.specs.Usual.{Bool, false, cond, not, List, ℕ, length, drop, eqb, leb, ltb}
 use Rattle.area.specs.Areas.{in_range, memory_octets}
 use Rattle.block.specs.Blocks.{blocks_of, start_of}
@@ -13,7 +13,6 @@ use Rattle.station.specs.Rules.Starting.{trigger_due, request_fallen}
 use Rattle.station.specs.Rules.State.{fresh, holds, begun, request_sent, moved}
 use Rattle.station.specs.Types.{Areas, Fields, Refusal, Settings, Phase, Off, Listening, Startup, Joining, Participating, Station, Asked}
 use Rattle.frame.specs.declared.Refusal.TheVariants as refusals
-use Rattle.station.specs.declared.Asked.TheVariants as answers
 
 -- the call: the state after it, the answer, and the lent buffers after it; the common memory is only read
 pub record Asking : Type 0 where
@@ -101,13 +100,13 @@ lent_right memory turn output =
     (eqb (length memory) memory_octets && eqb (length turn) memory_octets) && leb 1088 (length output)
 
 abbrev pub refused : Station → List ℕ → List ℕ → Refusal → Asking
-refused station turn output refusal = record { station = station; answer = answers.Refused refusal; turn = turn; output = output }
+refused station turn output refusal = record { station = station; answer = Err refusal; turn = turn; output = output }
 
 -- the frame that is due, written from the turn buffer as it then is
 abbrev pub written : Station → List ℕ → List ℕ → Asking
 written station turn output = record {
   station = sent_in station.phase station;
-  answer = answers.Octets (whole_length (due_fields station.phase station));
+  answer = Ok (whole_length (due_fields station.phase station));
   turn = turn;
   output = output_of (due_fields station.phase station) (drop (start_of (next_block station)) turn) output;
 }

@@ -1,14 +1,12 @@
 -- All calls of a station, each with the buffers that are lent to it.
-use Rattle.std.specs.Prelude.{◌∷◌}
+use Rattle.std.specs.Prelude.{Ok, Err, ◌∷◌}
 use Rattle.laws.specs.Usual.{[], List, ℕ}
 use Rattle.station.specs.Rules.Asking.{ask_of}
 use Rattle.station.specs.Rules.Hearing.{hear_of}
 use Rattle.station.specs.Rules.Starting.{start_of, stop_of}
 use Rattle.station.specs.Rules.Ticking.{tick_of}
 use Rattle.station.specs.Types.{Refusal, Settings, Station, Switched, Heard, Asked}
-use Rattle.station.specs.declared.Asked.TheVariants as asked
 use Rattle.station.specs.declared.Heard.TheVariants as heard
-use Rattle.station.specs.declared.Switched.TheVariants as switched
 
 -- a call with its arguments: hearing borrows the common memory and the assembly buffer, asking the common memory, the turn buffer and the
 -- output
@@ -51,8 +49,8 @@ pub data Verdict : Type 0 where
   unrefused : Verdict
 
 abbrev pub switched_verdict : Switched → Verdict
-switched_verdict switched.Done = unrefused
-switched_verdict (switched.Refused refusal) = refused_by refusal
+switched_verdict (Ok tt) = unrefused
+switched_verdict (Err refusal) = refused_by refusal
 
 abbrev pub heard_verdict : Heard → Verdict
 heard_verdict heard.Off = unrefused
@@ -61,8 +59,8 @@ heard_verdict (heard.Cyclic token) = unrefused
 heard_verdict (heard.Refused refusal) = refused_by refusal
 
 abbrev pub asked_verdict : Asked → Verdict
-asked_verdict (asked.Octets count) = unrefused
-asked_verdict (asked.Refused refusal) = refused_by refusal
+asked_verdict (Ok count) = unrefused
+asked_verdict (Err refusal) = refused_by refusal
 
 abbrev pub verdict : Station → Call → Verdict
 verdict station (start settings) = switched_verdict (start_of station settings).answer

@@ -1,5 +1,5 @@
 -- Hearing a frame (paper 01, "Numbers the station answers with", "Starting and joining", "The token view and the watch", "Data").
-use Rattle.std.specs.Prelude.{◌&&◌, ◌||◌}
+use Rattle.std.specs.Prelude.{Ok, Err, ◌&&◌, ◌||◌}
 use Rattle.laws.specs.Usual.{Bool, cond, not, List, ℕ, length, eqb}
 use Rattle.area.specs.Areas.{memory_octets}
 use Rattle.frame.specs.Codes.{is_token, is_cyclic}
@@ -11,7 +11,7 @@ use Rattle.station.specs.Rules.Data.{Gathered, gathered, without}
 use Rattle.station.specs.Rules.Starting.{ours_due, joined_by}
 use Rattle.station.specs.Rules.State.{is_off, is_participating, fresh, stopped, relisted}
 use Rattle.station.specs.Rules.Token.{view_heard, restarted, outcome_of}
-use Rattle.station.specs.Types.{Fields, Code, Refusal, Read, Frame, Refused, Phase, Off, Listening, Startup, Joining, Participating, Station, Dropped, Heard}
+use Rattle.station.specs.Types.{Fields, Code, Refusal, Read, Phase, Off, Listening, Startup, Joining, Participating, Station, Dropped, Heard}
 use Rattle.frame.specs.declared.Refusal.TheVariants as refusals
 use Rattle.station.specs.declared.Heard.TheVariants as answers
 use Rattle.station.specs.declared.Token.TheVariants as tokens
@@ -106,16 +106,16 @@ refused station memory assembly refusal = record { station = station; answer = a
 
 -- 7, 14, 15, 8, 9, then the frame is heard
 abbrev pub body_heard : Station → List ℕ → List ℕ → List ℕ → Read → Hearing
-body_heard station octets memory assembly (Refused refusal) = refused station memory assembly refusal
-body_heard station octets memory assembly (Frame frame) =
+body_heard station octets memory assembly (Err refusal) = refused station memory assembly refusal
+body_heard station octets memory assembly (Ok frame) =
     cond (is_stranger station frame)
     (refused station memory assembly refusals.Stranger)
     (accepted station frame octets memory assembly)
 
 -- 1 to 5, then 6
 abbrev pub header_heard : Station → List ℕ → List ℕ → List ℕ → Read → Hearing
-header_heard station octets memory assembly (Refused refusal) = refused station memory assembly refusal
-header_heard station octets memory assembly (Frame frame) =
+header_heard station octets memory assembly (Err refusal) = refused station memory assembly refusal
+header_heard station octets memory assembly (Ok frame) =
     cond (is_taken station frame)
     (refused (after_taken station) memory assembly refusals.Taken)
     (body_heard station octets memory assembly (read_body_of (length octets) frame))

@@ -1,5 +1,5 @@
 -- Paper 01, "Starting and joining": start and stop, when our trigger and our request are due, and what joining reads.
-use Rattle.std.specs.Prelude.{◌&&◌, ◌∷◌, ◌+◌}
+use Rattle.std.specs.Prelude.{Ok, Err, ◌&&◌, ◌∷◌, ◌+◌}
 use Rattle.laws.specs.Usual.{[], Bool, true, false, cond, not, List, ℕ, min, eqb, leb, ltb}
 use Rattle.area.specs.Areas.{in_range}
 use Rattle.frame.specs.Codes.{is_token}
@@ -10,7 +10,6 @@ use Rattle.frame_writing.specs.Writing.{no_areas}
 use Rattle.station.specs.Rules.State.{is_off, no_ticks, fresh, stopped, begun, learned}
 use Rattle.station.specs.Rules.Waits.{number_wait, listening_time}
 use Rattle.station.specs.Types.{Areas, Fields, Refusal, Members, Settings, Phase, Off, Listening, Startup, Joining, Participating, Station, Switched}
-use Rattle.station.specs.declared.Switched.TheVariants.{Done, Refused}
 use Rattle.frame.specs.declared.Refusal.TheVariants as refusals
 
 -- a call of start or stop: the state after it, and the answer
@@ -21,7 +20,7 @@ pub record Switching : Type 0 where
 -- a call that is refused where a test fails, and then alters nothing
 abbrev pub need : Bool → Refusal → Station → Switching → Switching
 need true refusal station rest = rest
-need false refusal station rest = record { station = station; answer = Refused refusal }
+need false refusal station rest = record { station = station; answer = Err refusal }
 
 -- "Start goes to listening with an empty list." 10 where it is not off; 5 for "an own number outside 1 to 254", and "0 at start" for the
 -- watch time "is answered 5"; 7 for our own areas
@@ -30,11 +29,11 @@ start_of station own =
     need (is_off station.phase) refusals.NotDue station
     (need (is_station own.number && ltb 0 own.watch.0) refusals.Address station
     (need (in_range own.areas) refusals.Area station
-    (record { station = fresh Listening own; answer = Done })))
+    (record { station = fresh Listening own; answer = Ok tt })))
 
 -- 10 where it is off
 abbrev pub stop_of : Station → Switching
-stop_of station = need (not (is_off station.phase)) refusals.NotDue station (record { station = stopped station; answer = Done })
+stop_of station = need (not (is_off station.phase)) refusals.NotDue station (record { station = stopped station; answer = Ok tt })
 
 -- whether our trigger is due: "No token in listening for the token detection wait: wait the trigger wait, then a trigger is due."
 abbrev pub trigger_due : Station → Bool
