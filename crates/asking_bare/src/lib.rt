@@ -8,7 +8,6 @@ ghost use Rattle.frame_round_trip.specs.Sent.{request_fields, trigger_fields};
 ghost use Rattle.frame_writing.specs.Writing.{whole_length, output_of};
 
 use frame::{Code, Fields};
-use frame_writing::Written;
 use station::Settings;
 use units::Milliseconds;
 
@@ -54,10 +53,7 @@ fn write(fields: Fields, block: &[u8], output: &mut [u8]) -> usize
     ensures value { result ≡ whole_length fields }
     ensures output_after { output.new ≡ output_of fields block.now output.old }
 {
-    match frame_whole_writing::write_frame(fields, block, output) {
-        Written::Octets(octets) => octets,
-        Written::Refused(_) => 0,
-    }
+    frame_whole_writing::write_frame(fields, block, output).unwrap_or(0)
 }
 
 // Writes a frame without data.

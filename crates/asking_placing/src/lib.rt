@@ -41,12 +41,6 @@ pub struct Sent {
     pub panel: Panel,
 }
 
-fn either(test: bool, a: u8, b: u8) -> u8
-    ensures { result ≡ cond test a b }
-{
-    if test { a } else { b }
-}
-
 // With the last block our view becomes next, and our place the first block of our next turn. A last block to ourselves is a taking.
 pub fn after_block(own: Settings, view: u8, block: u8, panel: Panel, next: u8) -> Sent
     requires { placed_in own.areas block ≡ true }
@@ -54,12 +48,16 @@ pub fn after_block(own: Settings, view: u8, block: u8, panel: Panel, next: u8) -
     ensures block_value { result.block ≡ cond (last_in own.areas block) 0 (block + 1) }
     ensures panel_value { result.panel ≡ cond (last_in own.areas block && eqb next own.number) (after_taking panel) panel }
 {
-    let areas = own.areas;
-    let last = is_last(areas, block);
-    let panel = state_parts::taken_if(last & (next == own.number), panel);
+    if is_last(own.areas, block) {
+        return Sent {
+            view: next,
+            block: 0,
+            panel: state_parts::taken_if(next == own.number, panel),
+        };
+    }
     Sent {
-        view: either(last, next, view),
-        block: either(last, 0, block + 1),
+        view,
+        block: block + 1,
         panel,
     }
 }

@@ -1,24 +1,21 @@
 // Hearing a frame.
 #![tactic(auto)]
 
-ghost use Rattle.std.specs.Prelude.{◌≡◌};
+ghost use Rattle.std.specs.Prelude.{Ok, ◌≡◌};
 ghost use Rattle.laws.specs.Usual.{true, length};
 ghost use Rattle.frame_reading.specs.Reading.{read_body_of};
-ghost use Rattle.frame_reading.specs.declared.Read.TheVariants as reads;
 ghost use Rattle.station.specs.Rules.Hearing.{knows as knows_of, is_stranger, is_taken, after_taken, lent_right, accepted, body_heard, header_heard, hear_of};
 
 use frame::{Fields, Refusal};
-use frame_reading::Read;
-pub use hearing_participant::Hearing;
 use hearing_participant::participant_hears;
-use station::{Heard, Station};
+use station::{Answered, Heard, Station};
 
-fn refused(station: Station, refusal: Refusal) -> Hearing
+fn refused(station: Station, refusal: Refusal) -> Answered<Heard>
     ensures station_value { result.station ≡ station }
     ensures answer_value { result.answer ≡ Heard.Refused refusal }
 {
     let answer = Heard::Refused(refusal);
-    Hearing { station, answer }
+    Answered { station, answer }
 }
 
 // Number 6: the source is our own number, which an off station does not ask.
@@ -69,9 +66,9 @@ fn accept(
     octets: &[u8],
     memory: &mut [u8],
     assembly: &mut [u8],
-) -> Hearing
+) -> Answered<Heard>
     requires assembly_value { lent_right memory.old assembly.old ≡ true }
-    requires frame_value { read_body_of (length octets.now) frame ≡ reads.Frame frame }
+    requires frame_value { read_body_of (length octets.now) frame ≡ Ok frame }
     ensures station_value { result.station ≡ (accepted station frame octets.now memory.old assembly.old).station }
     ensures answer_value { result.answer ≡ (accepted station frame octets.now memory.old assembly.old).answer }
     ensures memory_after { memory.new ≡ (accepted station frame octets.now memory.old assembly.old).memory }
@@ -84,7 +81,7 @@ fn accept(
     }
     let answer = hearing_token::answer(phase, code);
     let after = hearing_entering::enter(station, frame);
-    Hearing {
+    Answered {
         station: after,
         answer,
     }
@@ -97,13 +94,13 @@ fn hear_body(
     octets: &[u8],
     memory: &mut [u8],
     assembly: &mut [u8],
-) -> Hearing
+) -> Answered<Heard>
     requires assembly_value { lent_right memory.old assembly.old ≡ true }
-    requires frame_value { read_body_of (length octets.now) frame ≡ reads.Frame frame }
-    ensures station_value { result.station ≡ (body_heard station octets.now memory.old assembly.old (reads.Frame frame)).station }
-    ensures answer_value { result.answer ≡ (body_heard station octets.now memory.old assembly.old (reads.Frame frame)).answer }
-    ensures memory_after { memory.new ≡ (body_heard station octets.now memory.old assembly.old (reads.Frame frame)).memory }
-    ensures assembly_after { assembly.new ≡ (body_heard station octets.now memory.old assembly.old (reads.Frame frame)).assembly }
+    requires frame_value { read_body_of (length octets.now) frame ≡ Ok frame }
+    ensures station_value { result.station ≡ (body_heard station octets.now memory.old assembly.old (Ok frame)).station }
+    ensures answer_value { result.answer ≡ (body_heard station octets.now memory.old assembly.old (Ok frame)).answer }
+    ensures memory_after { memory.new ≡ (body_heard station octets.now memory.old assembly.old (Ok frame)).memory }
+    ensures assembly_after { assembly.new ≡ (body_heard station octets.now memory.old assembly.old (Ok frame)).assembly }
 {
     if is_stranger(station, frame) {
         return refused(station, Refusal::Stranger);
@@ -118,24 +115,29 @@ fn hear_header(
     octets: &[u8],
     memory: &mut [u8],
     assembly: &mut [u8],
-) -> Hearing
+) -> Answered<Heard>
     requires { lent_right memory.old assembly.old ≡ true }
-    ensures station_value { result.station ≡ (header_heard station octets.now memory.old assembly.old (reads.Frame frame)).station }
-    ensures answer_value { result.answer ≡ (header_heard station octets.now memory.old assembly.old (reads.Frame frame)).answer }
-    ensures memory_after { memory.new ≡ (header_heard station octets.now memory.old assembly.old (reads.Frame frame)).memory }
-    ensures assembly_after { assembly.new ≡ (header_heard station octets.now memory.old assembly.old (reads.Frame frame)).assembly }
+    ensures station_value { result.station ≡ (header_heard station octets.now memory.old assembly.old (Ok frame)).station }
+    ensures answer_value { result.answer ≡ (header_heard station octets.now memory.old assembly.old (Ok frame)).answer }
+    ensures memory_after { memory.new ≡ (header_heard station octets.now memory.old assembly.old (Ok frame)).memory }
+    ensures assembly_after { assembly.new ≡ (header_heard station octets.now memory.old assembly.old (Ok frame)).assembly }
 {
     if is_taken(station, frame) {
         return refused(after_taken(station), Refusal::Taken);
     }
     match frame_body::read_body(octets.len(), frame) {
-        Read::Frame(body) => hear_body(station, body, octets, memory, assembly),
-        Read::Refused(refusal) => refused(station, refusal),
+        Ok(body) => hear_body(station, body, octets, memory, assembly),
+        Err(refusal) => refused(station, refusal),
     }
 }
 
 // Number 11, then 1 to 5, and so on in the table's order: the first that applies.
-pub fn hear(station: Station, octets: &[u8], memory: &mut [u8], assembly: &mut [u8]) -> Hearing
+pub fn hear(
+    station: Station,
+    octets: &[u8],
+    memory: &mut [u8],
+    assembly: &mut [u8],
+) -> Answered<Heard>
     ensures station_value { result.station ≡ (hear_of station octets.now memory.old assembly.old).station }
     ensures answer_value { result.answer ≡ (hear_of station octets.now memory.old assembly.old).answer }
     ensures memory_after { memory.new ≡ (hear_of station octets.now memory.old assembly.old).memory }
@@ -145,7 +147,7 @@ pub fn hear(station: Station, octets: &[u8], memory: &mut [u8], assembly: &mut [
         return refused(station, Refusal::Buffer);
     }
     match frame_reading::read_header(octets) {
-        Read::Frame(frame) => hear_header(station, frame, octets, memory, assembly),
-        Read::Refused(first) => refused(station, first),
+        Ok(frame) => hear_header(station, frame, octets, memory, assembly),
+        Err(first) => refused(station, first),
     }
 }

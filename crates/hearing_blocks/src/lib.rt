@@ -1,27 +1,21 @@
 // What a heard block is to what was gathered: of the listed areas, a repeat, the next one.
 #![tactic(auto)]
 
-ghost use Rattle.std.specs.Prelude.{◌≡◌, ◌&&◌, ◌+◌, ◌≤◌};
-ghost use Rattle.laws.specs.Usual.{length, eqb};
+ghost use Rattle.std.specs.Prelude.{◌≡◌, ◌+◌, ◌≤◌};
+ghost use Rattle.laws.specs.Usual.{length};
 ghost use Rattle.area.specs.Areas.{memory_octets};
 ghost use Rattle.block.specs.Blocks.{start_of};
 ghost use Rattle.station.specs.Rules.Data.{same_areas, is_repeat, is_next};
 
-use area::{Areas, Part};
+use area::Areas;
 use frame::Fields;
 use station::Gathering;
-
-fn same_part(a: Part, b: Part) -> bool
-    ensures { result ≡ eqb a.address b.address && eqb a.size b.size }
-{
-    (a.address == b.address) & (a.size == b.size)
-}
 
 // "if the frame's areas differ from the listed ones"
 pub fn same_areas(a: Areas, b: Areas) -> bool
     ensures { result ≡ same_areas a b }
 {
-    same_part(a.one, b.one) & same_part(a.two, b.two)
+    a == b
 }
 
 // "the same source, number, length and octets as the last one still gathered". The octets are compared where they stand, and only for such a number.

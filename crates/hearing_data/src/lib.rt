@@ -1,11 +1,10 @@
 // The data of a cyclic frame that was heard.
 #![tactic(auto)]
 
-ghost use Rattle.std.specs.Prelude.{◌≡◌};
+ghost use Rattle.std.specs.Prelude.{Ok, ◌≡◌};
 ghost use Rattle.laws.specs.Usual.{true, length};
 ghost use Rattle.frame.specs.Codes.{is_cyclic};
 ghost use Rattle.frame_reading.specs.Reading.{read_body_of, data_of};
-ghost use Rattle.frame_reading.specs.declared.Read.TheVariants as reads;
 ghost use Rattle.station.specs.Rules.Data.{gathered_from};
 ghost use Rattle.station.specs.Rules.Hearing.{lent_right};
 
@@ -24,7 +23,7 @@ pub fn gather_frame(
     assembly: &mut [u8],
 ) -> Stored
     requires assembly_value { lent_right memory.old assembly.old ≡ true }
-    requires frame_value { read_body_of (length octets.now) frame ≡ reads.Frame frame }
+    requires frame_value { read_body_of (length octets.now) frame ≡ Ok frame }
     requires code_value { is_cyclic frame.code ≡ true }
     ensures gathering_value { result.gathering ≡ (gathered_from before listed frame (data_of octets.now frame) assembly.old memory.old).gathering }
     ensures outcome_value { result.outcome ≡ (gathered_from before listed frame (data_of octets.now frame) assembly.old memory.old).outcome }

@@ -13,8 +13,7 @@ use units::Ticks;
 fn ends_round(frame: Fields) -> bool
     ensures { result ≡ ends_round frame }
 {
-    let code = frame.code;
-    frame::is_token(code) & (frame.destination <= frame.source)
+    frame::is_token(frame.code) && frame.destination <= frame.source
 }
 
 pub fn rounds_after(rounds: u8, frame: Fields) -> u8
@@ -23,15 +22,14 @@ pub fn rounds_after(rounds: u8, frame: Fields) -> u8
     if !ends_round(frame) {
         return rounds;
     }
-    if rounds < 3 { rounds + 1 } else { 3 }
+    rounds.saturating_add(1).min(3)
 }
 
 // The token detection wait starts afresh at a token frame.
 pub fn elapsed_after(elapsed: Ticks, frame: Fields) -> Ticks
     ensures { result ≡ cond (is_token frame.code) no_ticks elapsed }
 {
-    let code = frame.code;
-    if frame::is_token(code) {
+    if frame::is_token(frame.code) {
         Ticks(0)
     } else {
         elapsed
@@ -42,8 +40,7 @@ pub fn elapsed_after(elapsed: Ticks, frame: Fields) -> Ticks
 pub fn destination_after(view: u8, frame: Fields) -> u8
     ensures { result ≡ cond (is_token frame.code) frame.destination view }
 {
-    let code = frame.code;
-    if frame::is_token(code) {
+    if frame::is_token(frame.code) {
         frame.destination
     } else {
         view

@@ -1,23 +1,15 @@
 // A cyclic frame that a participant hears.
 #![tactic(auto)]
 
-ghost use Rattle.std.specs.Prelude.{◌≡◌};
+ghost use Rattle.std.specs.Prelude.{Ok, ◌≡◌};
 ghost use Rattle.laws.specs.Usual.{true, length};
 ghost use Rattle.frame.specs.Codes.{is_cyclic};
 ghost use Rattle.frame_reading.specs.Reading.{read_body_of, data_of};
-ghost use Rattle.frame_reading.specs.declared.Read.TheVariants as reads;
 ghost use Rattle.station.specs.Rules.Data.{gathered};
 ghost use Rattle.station.specs.Rules.Hearing.{lent_right, participant_heard};
 
 use frame::Fields;
-use station::{Heard, Station};
-
-// A call of hear: the state after it, and the answer.
-#[derive(Clone, Copy)]
-pub struct Hearing {
-    pub station: Station,
-    pub answer: Heard,
-}
+use station::{Answered, Heard, Station};
 
 // A cyclic frame that a participant accepts.
 pub fn participant_hears(
@@ -26,9 +18,9 @@ pub fn participant_hears(
     octets: &[u8],
     memory: &mut [u8],
     assembly: &mut [u8],
-) -> Hearing
+) -> Answered<Heard>
     requires assembly_value { lent_right memory.old assembly.old ≡ true }
-    requires frame_value { read_body_of (length octets.now) frame ≡ reads.Frame frame }
+    requires frame_value { read_body_of (length octets.now) frame ≡ Ok frame }
     requires code_value { is_cyclic frame.code ≡ true }
     ensures station_value { result.station ≡ (participant_heard station frame (gathered station frame (data_of octets.now frame) assembly.old memory.old)).station }
     ensures answer_value { result.answer ≡ (participant_heard station frame (gathered station frame (data_of octets.now frame) assembly.old memory.old)).answer }
@@ -53,5 +45,5 @@ pub fn participant_hears(
         after,
         panel,
     );
-    Hearing { station, answer }
+    Answered { station, answer }
 }

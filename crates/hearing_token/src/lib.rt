@@ -16,18 +16,13 @@ fn view_after(view: u8, source: u8, destination: u8) -> u8
     if source == view {
         return destination;
     }
-    if view < destination {
-        view
-    } else {
-        destination
-    }
+    view.min(destination)
 }
 
 pub fn view_heard(view: u8, frame: Fields) -> u8
     ensures { result ≡ view_heard view frame }
 {
-    let code = frame.code;
-    if frame::is_token(code) {
+    if frame::is_token(frame.code) {
         view_after(view, frame.source, frame.destination)
     } else {
         view
@@ -38,9 +33,8 @@ pub fn view_heard(view: u8, frame: Fields) -> u8
 pub fn outcome_of(own: u8, before: u8, frame: Fields, outcome: Data) -> Token
     ensures { result ≡ outcome_by own before frame outcome }
 {
-    let code = frame.code;
     let after = view_heard(before, frame);
-    if !frame::is_token(code) {
+    if !frame::is_token(frame.code) {
         return Token::None(outcome);
     }
     if state_tests::takes(own, before, after) {

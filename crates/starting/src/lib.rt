@@ -8,74 +8,55 @@ ghost use Rattle.station.specs.Rules.Starting.{start_of, stop_of};
 ghost use Rattle.starting.specs.Answers.{start_answer};
 
 use frame::Refusal;
-use station::{Phase, Settings, Station, Switched};
-
-// A call of start or stop: the state after it, and the answer.
-#[derive(Clone, Copy)]
-pub struct Switching {
-    pub station: Station,
-    pub answer: Switched,
-}
-
-fn refused(station: Station, refusal: Refusal) -> Switching
-    ensures station_value { result.station ≡ station }
-    ensures answer_value { result.answer ≡ Switched.Refused refusal }
-{
-    let answer = Switched::Refused(refusal);
-    Switching { station, answer }
-}
-
-fn done(station: Station) -> Switching
-    ensures station_value { result.station ≡ station }
-    ensures answer_value { result.answer ≡ Switched.Done }
-{
-    let answer = Switched::Done;
-    Switching { station, answer }
-}
+use station::{Answered, Phase, Settings, Station};
 
 // Our own number is a station's, and our watch time is not 0.
 fn is_numbered(own: Settings) -> bool
     ensures { result ≡ is_station own.number && ltb 0 own.watch.0 }
 {
-    let watch = own.watch;
-    frame_reading::is_station(own.number) & (0 < watch.0)
+    frame_reading::is_station(own.number) && 0 < own.watch.0
 }
 
 // What a start is answered. The list does not matter to it.
-pub fn start_answer(phase: Phase, own: Settings) -> Switched
+pub fn start_answer(phase: Phase, own: Settings) -> Result<(), Refusal>
     ensures { result ≡ start_answer phase own }
 {
-    let areas = own.areas;
     if !state_tests::is_off(phase) {
-        return Switched::Refused(Refusal::NotDue);
+        return Err(Refusal::NotDue);
     }
     if !is_numbered(own) {
-        return Switched::Refused(Refusal::Address);
+        return Err(Refusal::Address);
     }
-    if !area::in_range(areas) {
-        return Switched::Refused(Refusal::Area);
+    if !area::in_range(own.areas) {
+        return Err(Refusal::Area);
     }
-    Switched::Done
+    Ok(())
 }
 
-pub fn start(station: Station, own: Settings) -> Switching
+pub fn start(station: Station, own: Settings) -> Answered<Result<(), Refusal>>
     ensures station_value { result.station ≡ (start_of station own).station }
     ensures answer_value { result.answer ≡ (start_of station own).answer }
 {
-    let phase = station.phase;
-    match start_answer(phase, own) {
-        Switched::Done => done(phases::fresh(Phase::Listening, own)),
-        Switched::Refused(refusal) => refused(station, refusal),
-    }
+    let answer = start_answer(station.phase, own);
+    let station = match answer {
+        Ok(()) => phases::fresh(Phase::Listening, own),
+        Err(_) => station,
+    };
+    Answered { station, answer }
 }
 
-pub fn stop(station: Station) -> Switching
+pub fn stop(station: Station) -> Answered<Result<(), Refusal>>
     ensures station_value { result.station ≡ (stop_of station).station }
     ensures answer_value { result.answer ≡ (stop_of station).answer }
 {
-    let phase = station.phase;
-    if state_tests::is_off(phase) {
-        return refused(station, Refusal::NotDue);
+    if state_tests::is_off(station.phase) {
+        return Answered {
+            station,
+            answer: Err(Refusal::NotDue),
+        };
     }
-    done(phases::stopped(station))
+    Answered {
+        station: phases::stopped(station),
+        answer: Ok(()),
+    }
 }

@@ -8,21 +8,14 @@ ghost use Rattle.station.specs.Rules.Data.{without as without_of};
 ghost use Rattle.station.specs.Rules.State.{nothing};
 ghost use Rattle.frame_writing.specs.Writing.{no_areas};
 
-use area::{Areas, Part};
+use area::Areas;
 use panel::Panel;
 use station::Gathering;
 
 pub fn no_areas() -> Areas
     ensures { result ≡ no_areas }
 {
-    let none = Part {
-        address: 0,
-        size: 0,
-    };
-    Areas {
-        one: none,
-        two: none,
-    }
+    Areas::default()
 }
 
 // Nothing gathered.

@@ -10,37 +10,24 @@ use station::{Phase, Station};
 pub fn is_off(phase: Phase) -> bool
     ensures { result ≡ is_off phase }
 {
-    match phase {
-        Phase::Off => true,
-        Phase::Listening => false,
-        Phase::Startup => false,
-        Phase::Joining => false,
-        Phase::Participating => false,
-    }
+    phase == Phase::Off
 }
 
 pub fn is_participating(phase: Phase) -> bool
     ensures { result ≡ is_participating phase }
 {
-    match phase {
-        Phase::Off => false,
-        Phase::Listening => false,
-        Phase::Startup => false,
-        Phase::Joining => false,
-        Phase::Participating => true,
-    }
+    phase == Phase::Participating
 }
 
 pub fn holds(station: Station) -> bool
     ensures { result ≡ holds_of station }
 {
-    let own = station.own;
-    station.view == own.number
+    station.view == station.own.number
 }
 
 // Whether a step that moves our view from one number to another is a taking.
 pub fn takes(own: u8, before: u8, after: u8) -> bool
     ensures { result ≡ takes_of own before after }
 {
-    (after == own) & (before != own)
+    after == own && before != own
 }

@@ -12,17 +12,10 @@ ghost use Rattle.station.specs.declared.Phase.TheVariants as phases;
 
 use members::Members;
 use panel::Panel;
-use station::{Gathering, Phase, Settings, Station, Ticked};
+use station::{Answered, Gathering, Phase, Settings, Station, Ticked};
 use units::Ticks;
 use waits::{wait_ends, waited_then};
 use waits_watch::watch_ends;
-
-// A call of tick: the state after it, and the answer.
-#[derive(Clone, Copy)]
-pub struct Ticking {
-    pub station: Station,
-    pub answer: Ticked,
-}
 
 // A station with its counts of ticks, its own settings and its panel changed.
 fn count(station: Station, own: Settings, elapsed: Ticks, waited: Ticks, panel: Panel) -> Station
@@ -171,14 +164,12 @@ fn tick_on(station: Station) -> Station
     }
 }
 
-pub fn tick(station: Station) -> Ticking
+pub fn tick(station: Station) -> Answered<Ticked>
     ensures station_value { result.station ≡ (tick_of station).station }
     ensures answer_value { result.answer ≡ (tick_of station).answer }
 {
-    let phase = station.phase;
-    let answer = ticking_answer::answer_in(phase);
-    Ticking {
+    Answered {
         station: tick_on(station),
-        answer,
+        answer: ticking_answer::answer_in(station.phase),
     }
 }

@@ -11,9 +11,6 @@ pub fn answer_in(phase: Phase) -> Ticked
 {
     match phase {
         Phase::Off => Ticked::Off,
-        Phase::Listening => Ticked::Done,
-        Phase::Startup => Ticked::Done,
-        Phase::Joining => Ticked::Done,
-        Phase::Participating => Ticked::Done,
+        _ => Ticked::Done,
     }
 }

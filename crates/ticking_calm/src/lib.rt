@@ -8,7 +8,7 @@ ghost use Rattle.ticking_calm.specs.Calm.{calm_in, later_by, ticked_by, counts_a
 
 use panel::Panel;
 use station::Phase;
-use ticking_left::{least, left_in};
+use ticking_left::left_in;
 use units::{Milliseconds, Ticks};
 
 // What a station counts by its ticks.
@@ -31,40 +31,32 @@ pub fn calm_in(
 ) -> u32
     ensures { result ≡ calm_in phase number time rounds elapsed waited count }
 {
-    let calm = least(
-        count,
-        left_in(phase, number, time, false, rounds, elapsed, waited),
-    );
+    let calm = count.min(left_in(phase, number, time, false, rounds, elapsed, waited));
     match phase {
-        Phase::Off => count,
-        Phase::Listening => count,
-        Phase::Startup => calm,
-        Phase::Joining => calm,
-        Phase::Participating => calm,
+        Phase::Off | Phase::Listening => count,
+        Phase::Startup | Phase::Joining | Phase::Participating => calm,
     }
 }
 
 // So many ticks more, up to a limit.
+#[tactic(auto, using(crate::specs::Sums::later_sum))]
 fn later_by(most: Ticks, count: u32, ticks: Ticks) -> Ticks
     ensures { result ≡ later_by most.0 count ticks }
 {
     if count == 0 {
         return ticks;
     }
-    let sum = ticks.0 as u64 + count as u64;
-    if sum < most.0 as u64 {
-        Ticks(sum as u32)
-    } else {
-        most
-    }
+    Ticks(ticks.0.saturating_add(count).min(most.0))
 }
 
+#[tactic(auto, using(crate::specs::Sums::ticked_by_lem))]
 fn panel_by(count: u32, panel: Panel) -> Panel
     ensures { result ≡ ticked_by count panel }
 {
-    let before = panel.running;
-    let running = later_by(Ticks(65536), count, before);
-    Panel { running, ..panel }
+    Panel {
+        running: later_by(Ticks(65536), count, panel.running),
+        ..panel
+    }
 }
 
 fn waited_by(number: u8, rounds: u8, count: u32, waited: Ticks) -> Ticks

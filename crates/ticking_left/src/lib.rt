@@ -2,7 +2,7 @@
 #![tactic(auto)]
 
 ghost use Rattle.std.specs.Prelude.{◌≡◌, ◌&&◌};
-ghost use Rattle.laws.specs.Usual.{not, min, eqb};
+ghost use Rattle.laws.specs.Usual.{not, eqb};
 ghost use Rattle.station.specs.Rules.Waits.{detection_wait, acceptance_time, number_wait};
 ghost use Rattle.ticking_quiet.specs.Quiet.{before as before_of, before_request, runs as runs_of, left_in};
 
@@ -13,35 +13,20 @@ use units::{Milliseconds, Ticks};
 fn before(wait: Ticks, elapsed: Ticks) -> u32
     ensures { result ≡ before_of wait.0 elapsed.0 }
 {
-    if elapsed.0 < wait.0 {
-        wait.0 - elapsed.0 - 1
-    } else {
-        0
-    }
+    wait.0.saturating_sub(elapsed.0).saturating_sub(1)
 }
 
-// The smaller of two counts.
-pub fn least(a: u32, b: u32) -> u32
-    ensures { result ≡ min a b }
-{
-    if a < b { a } else { b }
-}
-
+// A flag beside a count, and no Option: so the definition has it, and a test and its count are worked out apart.
 fn before_request(awaited: bool, request: u32, ticks: u32) -> u32
     ensures { result ≡ before_request awaited request ticks }
 {
-    if awaited {
-        least(ticks, request)
-    } else {
-        ticks
-    }
+    if awaited { ticks.min(request) } else { ticks }
 }
 
 fn runs(number: u8, count: Ticks) -> bool
     ensures { result ≡ runs_of number count }
 {
-    let wait = waits_lengths::number_wait(number);
-    count.0 < wait.0
+    count < waits_lengths::number_wait(number)
 }
 
 fn startup_left(number: u8, sent: bool, elapsed: Ticks) -> u32

@@ -5,8 +5,7 @@ ghost use Rattle.std.specs.Prelude.{◌≡◌, ◌-◌, ◌≤◌};
 ghost use Rattle.ticking_quiet.specs.Many.{after_ticks, ticks_of};
 ghost use Rattle.ticking_jump.specs.Jump.{is_alone};
 
-use station::Station;
-use ticking::Ticking;
+use station::{Answered, Station, Ticked};
 use ticking_calm::Counts;
 
 // A station, and the ticks that are still to come.
@@ -66,7 +65,7 @@ fn jump(station: Station, count: u32) -> Left
 }
 
 // So many ticks one after the other: those that only count are jumped over.
-pub fn ticks(station: Station, count: u32) -> Ticking
+pub fn ticks(station: Station, count: u32) -> Answered<Ticked>
     ensures station_value { result.station ≡ (ticks_of count station).station }
     ensures answer_value { result.answer ≡ (ticks_of count station).answer }
 {
@@ -74,6 +73,7 @@ pub fn ticks(station: Station, count: u32) -> Ticking
     let answer = ticking_answer::answer_in(phase);
     let mut after = station;
     let mut left = count;
+    // No `for`: how many ticks a step jumps over the step itself tells.
     while 0 < left {
         let jumped = jump(after, left - 1);
         let before = jumped.station;
@@ -81,7 +81,7 @@ pub fn ticks(station: Station, count: u32) -> Ticking
         after = ticking.station;
         left = jumped.ticks;
     }
-    Ticking {
+    Answered {
         station: after,
         answer,
     }

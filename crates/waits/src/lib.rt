@@ -11,11 +11,7 @@ use waits_lengths::number_wait;
 pub fn later(most: Ticks, ticks: Ticks) -> Ticks
     ensures { result ≡ later_of most.0 ticks }
 {
-    if ticks.0 < most.0 {
-        Ticks(ticks.0 + 1)
-    } else {
-        most
-    }
+    Ticks(ticks.0.saturating_add(1).min(most.0))
 }
 
 // Whether a tick that took a wait from one count to another ends the wait for our number.
@@ -23,7 +19,7 @@ pub fn wait_ends(number: u8, before: Ticks, after: Ticks) -> bool
     ensures { result ≡ wait_ends number before after }
 {
     let wait = number_wait(number);
-    (before.0 < wait.0) & (wait.0 <= after.0)
+    before < wait && wait <= after
 }
 
 // In joining, the wait for our number runs from the end of the third round.

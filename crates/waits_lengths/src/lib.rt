@@ -9,25 +9,25 @@ use units::{Ticks, Wait};
 pub fn detection_wait() -> Ticks
     ensures { result.0 ≡ detection_wait }
 {
-    units::in_ticks(Wait(3000))
+    Ticks::from(Wait(3000))
 }
 
 pub fn acceptance_time() -> Ticks
     ensures { result.0 ≡ acceptance_time }
 {
-    units::in_ticks(Wait(1200))
+    Ticks::from(Wait(1200))
 }
 
 pub fn number_wait(number: u8) -> Ticks
     ensures { result.0 ≡ number_wait number }
 {
-    units::in_ticks(Wait(4 * number as u16))
+    Ticks::from(Wait(4 * u16::from(number)))
 }
 
 fn trigger_wait(number: u8) -> Ticks
     ensures { result.0 ≡ trigger_wait number }
 {
-    units::in_ticks(Wait(4 * (number as u16 % 8)))
+    Ticks::from(Wait(4 * (u16::from(number) % 8)))
 }
 
 // Listening until a trigger is due: token detection, then the trigger wait.

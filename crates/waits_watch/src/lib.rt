@@ -5,13 +5,13 @@ ghost use Rattle.std.specs.Prelude.{◌≡◌, ◌||◌, ◌+◌};
 ghost use Rattle.laws.specs.Usual.{cond, not, leb};
 ghost use Rattle.station.specs.Rules.Waits.{watch_ticks, counts_as, longest_watch};
 
-use units::{Milliseconds, Ticks};
+use units::{Milliseconds, Ticks, Wait};
 
 // "a listed TW of 0 counts as 1 ms"
 fn counts_as(watch: Milliseconds) -> Milliseconds
     ensures { result ≡ counts_as watch }
 {
-    if watch.0 == 0 { Milliseconds(1) } else { watch }
+    Milliseconds(watch.0.max(1))
 }
 
 // The time that the watch runs for, by whether we hold, whether the station in view is listed, our own time and the listed one.
@@ -24,7 +24,7 @@ pub fn watch_time(held: bool, listed: bool, own: Milliseconds, time: Millisecond
 pub fn watch_ticks(watch: Milliseconds) -> Ticks
     ensures { result.0 ≡ watch_ticks watch }
 {
-    units::in_ticks(units::as_wait(watch))
+    Ticks::from(Wait::from(watch))
 }
 
 pub fn longest_watch() -> Ticks
@@ -37,6 +37,5 @@ pub fn longest_watch() -> Ticks
 pub fn watch_ends(time: Milliseconds, elapsed: Ticks) -> bool
     ensures { result ≡ leb (watch_ticks time) (elapsed.0 + 1) }
 {
-    let watch = watch_ticks(time);
-    watch.0 as u64 <= elapsed.0 as u64 + 1
+    watch_ticks(time).0 <= elapsed.0.saturating_add(1)
 }

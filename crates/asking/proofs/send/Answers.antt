@@ -1,5 +1,5 @@
 -- `asking::send` meets its contract.
-use Rattle.std.specs.Prelude.{◌≡◌}
+use Rattle.std.specs.Prelude.{Ok, ◌≡◌}
 use Rattle.laws.specs.Usual.{refl, sym, ap, subst, ◌∙◌, false≢true, List, [], ℕ, arith, length, drop, rules}
 use Rattle.asking_bare.specs.Bare.{no_data}
 use Rattle.block.specs.Blocks.{start_of}
@@ -10,7 +10,7 @@ use Rattle.station.specs.Rules.State.{holds}
 use Rattle.frame.specs.declared.Fields.{Fields}
 use Rattle.station.specs.declared.Phase.{Phase}
 use Rattle.station.specs.declared.Station.{Station}
-use Rattle.station.specs.declared.Asked.{Asked}
+use Rattle.station.specs.Types.{Asked}
 use Rattle.frame_writing.specs.Writing.{whole_length, output_of}
 use Rattle.asking.proofs.Lent.{lent}
 use Rattle.asking.proofs.send.Goals as goal
@@ -20,20 +20,20 @@ module _ (station : Station) (memory turn output : List ℕ) where
   abbrev Sent : Phase → Station → Asked → List ℕ → Type 0
   Sent phase after answer written =
       (after ≡ sent_in phase station)
-      × ((answer ≡ Asked.Octets (whole_length (due_fields phase station)))
+      × ((answer ≡ Ok (whole_length (due_fields phase station)))
       × ((turn ≡ turn_after phase station memory turn)
       × (written ≡ output_of (due_fields phase station) (drop (start_of (next_block station)) (turn_after phase station memory turn)) output)))
 
   -- one without data
   bare : {phase : Phase} {fields : Fields} {after : Station} {answer : Asked} {written : List ℕ} →
       station.phase ≡ phase → fields ≡ due_fields phase station → data_size (due_fields phase station) ≡ 0 → turn_after phase station memory turn ≡ turn →
-      after ≡ sent_in phase station → answer ≡ Asked.Octets (whole_length fields) → written ≡ output_of fields [] output →
+      after ≡ sent_in phase station → answer ≡ Ok (whole_length fields) → written ≡ output_of fields [] output →
       Sent station.phase after answer written
   bare {phase} {fields} {after} {answer} {written} told e none kept p q r =
       let block = drop (start_of (next_block station)) (turn_after phase station memory turn) in
       let output_so = r ∙ ap (λ (f : Fields). output_of f [] output) e ∙ no_data (due_fields phase station) block output none in
       subst (λ (now : Phase). Sent now after answer written) (sym told)
-      (p, (q ∙ ap (λ (f : Fields). Asked.Octets (whole_length f)) e, (sym kept, output_so)))
+      (p, (q ∙ ap (λ (f : Fields). Ok (whole_length f)) e, (sym kept, output_so)))
 
 pub send_bare-requires : goal.send_bare-requires
 send_bare-requires c = record { fields_value = ap data_size c.trigger_fields.ensures; in_bounds = (lent c.args.memory.now c.args.turn.now c.args.output.now c.requires.output_value).room }

@@ -1,6 +1,0 @@
--- `state_tests::holds` meets its contract.
-use Rattle.laws.specs.Usual.{refl}
-use Rattle.state_tests.proofs.holds.Goals as goal
-
-pub returns : goal.returns
-returns c = refl

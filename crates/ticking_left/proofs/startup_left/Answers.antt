@@ -1,5 +1,0 @@
--- `ticking_left::startup_left` meets its contract.
-use Rattle.ticking_left.proofs.startup_left.Goals as goal
-
-pub returns : goal.returns
-returns c = rw (c.before_request.ensures, c.before-2.ensures, c.acceptance_time.ensures, c.before-request.ensures, c.number_wait.ensures, c.runs.ensures)
