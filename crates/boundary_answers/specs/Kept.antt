@@ -1,5 +1,5 @@
 -- The numbers lose nothing: each answer can be told from its numbers.
-use Rattle.std.specs.Prelude.{◌≡◌}
+use Rattle.std.specs.Prelude.{Ok, Err, ◌≡◌}
 use Rattle.laws.specs.Usual.{refl, ap, cond, ℕ, eqb}
 use Rattle.frame_refusals.specs.Refusals.{number_of}
 use Rattle.frame.specs.declared.Refusal.TheVariants.{Cut, Mark, Length, Code, Address, Taken, Area, Block, Stranger, NotDue, Buffer, Message, Waiting, Total, Number}
@@ -8,16 +8,14 @@ use Rattle.frame.specs.declared.Refusal.{Refusal}
 use Rattle.station.specs.declared.Data.{Data}
 use Rattle.station.specs.declared.Data.TheVariants.{Kept, Written, Dropped, Repeat}
 use Rattle.station.specs.declared.Token.{Token}
-use Rattle.station.specs.declared.Switched.{Switched}
+use Rattle.station.specs.Types.{Switched}
 use Rattle.station.specs.declared.Ticked.{Ticked}
 use Rattle.station.specs.declared.Heard.{Heard}
-use Rattle.station.specs.declared.Asked.{Asked}
+use Rattle.station.specs.Types.{Asked}
 use Rattle.station.specs.declared.Token.TheVariants.{None, PassedOn, OursNow, RivalPassedOver, RivalWon}
 use Rattle.boundary_answers.specs.Numbers.{switched_answer, ticked_answer, heard_answer, asked_answer}
 use Rattle.boundary_answers.specs.declared.Answer.{Answer}
-use Rattle.station.specs.declared.Asked.TheVariants as asked
 use Rattle.station.specs.declared.Heard.TheVariants as heard
-use Rattle.station.specs.declared.Switched.TheVariants as switched
 use Rattle.station.specs.declared.Ticked.TheVariants as ticked
 
 -- the case of each number
@@ -63,11 +61,11 @@ token_kept (RivalPassedOver outcome) = ap RivalPassedOver (data_kept outcome)
 token_kept (RivalWon outcome) = ap RivalWon (data_kept outcome)
 
 abbrev pub switched_of : Answer → Switched
-switched_of answer = cond (eqb answer.word 1) switched.Done (switched.Refused (refusal_of answer.refusal))
+switched_of answer = cond (eqb answer.word 1) (Ok tt) (Err (refusal_of answer.refusal))
 
 pub switched_kept : (answer : Switched) → switched_of (switched_answer answer) ≡ answer
-switched_kept switched.Done = refl
-switched_kept (switched.Refused refusal) = ap switched.Refused (refusal_kept refusal)
+switched_kept (Ok tt) = refl
+switched_kept (Err refusal) = ap Err (refusal_kept refusal)
 
 abbrev pub ticked_of : Answer → Ticked
 ticked_of answer = cond (eqb answer.word 0) ticked.Off ticked.Done
@@ -87,8 +85,8 @@ heard_kept (heard.Cyclic token) = ap heard.Cyclic (token_kept token)
 heard_kept (heard.Refused refusal) = ap heard.Refused (refusal_kept refusal)
 
 abbrev pub asked_of : Answer → Asked
-asked_of answer = cond (eqb answer.word 3) (asked.Octets answer.octets) (asked.Refused (refusal_of answer.refusal))
+asked_of answer = cond (eqb answer.word 3) (Ok answer.octets) (Err (refusal_of answer.refusal))
 
 pub asked_kept : (answer : Asked) → asked_of (asked_answer answer) ≡ answer
-asked_kept (asked.Octets octets) = refl
-asked_kept (asked.Refused refusal) = ap asked.Refused (refusal_kept refusal)
+asked_kept (Ok octets) = refl
+asked_kept (Err refusal) = ap Err (refusal_kept refusal)

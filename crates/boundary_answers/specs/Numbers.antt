@@ -1,18 +1,17 @@
 -- The answers as numbers. Refusals, outcomes and phases have the numbers of paper 01; the words of an answer are numbered here.
+use Rattle.std.specs.Prelude.{Ok, Err}
 use Rattle.laws.specs.Usual.{ℕ}
 use Rattle.frame_refusals.specs.Refusals.{number_of}
 use Rattle.station.specs.Rules.Answers.{data_number, token_number, data_of}
 use Rattle.station.specs.Types.{Refusal}
 use Rattle.station.specs.declared.Token.{Token}
-use Rattle.station.specs.declared.Switched.{Switched}
+use Rattle.station.specs.Types.{Switched}
 use Rattle.station.specs.declared.Ticked.{Ticked}
 use Rattle.station.specs.declared.Heard.{Heard}
-use Rattle.station.specs.declared.Asked.{Asked}
+use Rattle.station.specs.Types.{Asked}
 use Rattle.boundary_answers.specs.declared.Answer.{Answer}
 use Rattle.boundary_answers.specs.declared.Route.{Route}
-use Rattle.station.specs.declared.Asked.TheVariants as asked
 use Rattle.station.specs.declared.Heard.TheVariants as heard
-use Rattle.station.specs.declared.Switched.TheVariants as switched
 use Rattle.station.specs.declared.Ticked.TheVariants as ticked
 
 -- no frame
@@ -40,8 +39,8 @@ abbrev pub refused_answer : Refusal → Answer
 refused_answer refusal = record { word = 4; refusal = number_of refusal; token = 0; outcome = 0; frame = no_frame; octets = 0 }
 
 abbrev pub switched_answer : Switched → Answer
-switched_answer switched.Done = done_answer
-switched_answer (switched.Refused refusal) = refused_answer refusal
+switched_answer (Ok tt) = done_answer
+switched_answer (Err refusal) = refused_answer refusal
 
 abbrev pub ticked_answer : Ticked → Answer
 ticked_answer ticked.Off = off_answer
@@ -54,5 +53,5 @@ heard_answer (heard.Cyclic token) = cyclic_answer token
 heard_answer (heard.Refused refusal) = refused_answer refusal
 
 abbrev pub asked_answer : Asked → Answer
-asked_answer (asked.Octets octets) = frame_answer octets
-asked_answer (asked.Refused refusal) = refused_answer refusal
+asked_answer (Ok octets) = frame_answer octets
+asked_answer (Err refusal) = refused_answer refusal

@@ -15,7 +15,7 @@ pub struct Route {
     pub destination: u8,
 }
 
-// An answer of any call. What the word does not point to is 0.
+// An answer of any call, in numbers, as C has it (`flnet_answer`). What the word does not point to is 0.
 #[repr(C)]
 #[derive(Clone, Copy)]
 pub struct Answer {

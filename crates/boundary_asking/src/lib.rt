@@ -2,7 +2,7 @@
 // given is what the numbers hold.
 #![tactic(auto)]
 
-ghost use Rattle.std.specs.Prelude.{◌≡◌, ◌≤◌};
+ghost use Rattle.std.specs.Prelude.{Ok, ◌≡◌, ◌≤◌};
 ghost use Rattle.laws.specs.Usual.{true, [], length};
 ghost use Rattle.boundary_bare.specs.Bare.{bare_fields, after_bare};
 ghost use Rattle.boundary_core.specs.Crossing.{core_of, station_in};
@@ -12,7 +12,6 @@ ghost use Rattle.boundary_places.specs.Places.{core_in, kept};
 ghost use Rattle.boundary_told.specs.Told.{asked_told};
 ghost use Rattle.frame_writing.specs.Writing.{whole_length, output_of};
 ghost use Rattle.station.specs.Rules.Asking.{lent_right, ask_of};
-ghost use Rattle.station.specs.declared.Asked.TheVariants.{Octets};
 
 use boundary_core::{Answer, Core};
 use boundary_keeping::keep;
@@ -58,7 +57,7 @@ fn ask_bare(
     requires { 1088 ≤ length output.old }
     ensures core_after { core_in core.new ≡ core_of (after_bare state (members_in listed.old areas.old watch.old misses.old)) }
     ensures core_after_2 { core.new ≡ kept core.old (core_of (after_bare state (members_in listed.old areas.old watch.old misses.old))) }
-    ensures value { result ≡ asked_told (output_of (bare_fields state) [] output.old) (Octets (whole_length (bare_fields state))) }
+    ensures value { result ≡ asked_told (output_of (bare_fields state) [] output.old) (Ok (whole_length (bare_fields state))) }
     ensures output_after { output.new ≡ output_of (bare_fields state) [] output.old }
     ensures misses_after { members_in listed.new areas.new watch.new misses.new ≡ (after_bare state (members_in listed.old areas.old watch.old misses.old)).members }
 {

@@ -1,10 +1,9 @@
 -- Our frames without data: our request in ring startup and in joining, our trigger in listening. Assumes nothing.
-use Rattle.std.specs.Prelude.{◌≡◌, ◌&&◌, ◌||◌}
-use Rattle.laws.specs.Usual.{refl, sym, ap, ◌∙◌, Bool, true, false, cond, false≢true, List, [], ℕ, drop, eqb}
-use Rattle.std.proofs.Common.{eqb-true}
+use Rattle.std.specs.Prelude.{Ok, ◌≡◌, ◌&&◌}
+use Rattle.laws.specs.Usual.{refl, sym, ap, ◌∙◌, Bool, true, false, cond, false≢true, List, [], ℕ, drop}
 use Rattle.asking_bare.specs.Bare.{no_data}
 use Rattle.block.specs.Blocks.{start_of}
-use Rattle.boundary_core.specs.Crossing.{phase_of, station_of}
+use Rattle.boundary_core.specs.Crossing.{station_of}
 use Rattle.boundary_core.specs.declared.Core.{Core}
 use Rattle.boundary_holder.specs.Held.{holds_block}
 use Rattle.boundary_due.specs.Due.{due_core}
@@ -14,8 +13,8 @@ use Rattle.frame_writing.specs.Writing.{whole_length, output_of}
 use Rattle.station.specs.Rules.Asking.{Asking, due_in, next_block, lent_right, ask_of}
 use Rattle.station.specs.Rules.State.{fresh}
 use Rattle.station.specs.Types.{Fields, Members}
-use Rattle.station.specs.declared.Asked.TheVariants.{Octets}
-use Rattle.station.specs.declared.Phase.TheVariants.{Listening, Startup}
+use Rattle.station.specs.declared.Phase.{Phase}
+use Rattle.station.specs.declared.Phase.TheVariants.{Off, Listening, Startup, Joining, Participating}
 use Rattle.station.specs.declared.Station.{Station}
 
 abbrev pub bare_fields : Core → Fields
@@ -28,7 +27,7 @@ after_bare core members = cond (is_requesting core) (after_request core members)
 -- a frame without data, sent
 abbrev pub sent_bare : Station → Fields → List ℕ → List ℕ → Asking
 sent_bare after fields turn output =
-    record { station = after; answer = Octets (whole_length fields); turn = turn; output = output_of fields [] output }
+    record { station = after; answer = Ok (whole_length fields); turn = turn; output = output_of fields [] output }
 
 -- in listening
 triggered : (station : Station) (memory turn output : List ℕ) → lent_right memory turn output ≡ true → station.phase ≡ Listening → due_in Listening station ≡ true
@@ -37,10 +36,10 @@ triggered station memory turn output lent phase due =
     let fields = trigger_fields station.own.number in
     let block = drop (start_of (next_block station)) turn in
     let asked : ask_of station memory turn output
-    ≡ record { station = fresh Startup station.own; answer = Octets (whole_length fields); turn = turn; output = output_of fields block output } =
+    ≡ record { station = fresh Startup station.own; answer = Ok (whole_length fields); turn = turn; output = output_of fields block output } =
     rw (lent, phase, due) in
     asked
-    ∙ ap (λ (octets : List ℕ). record { station = fresh Startup station.own; answer = Octets (whole_length fields); turn = turn; output = octets })
+    ∙ ap (λ (octets : List ℕ). record { station = fresh Startup station.own; answer = Ok (whole_length fields); turn = turn; output = octets })
     (sym (no_data fields block output refl))
 
 without_second : (a b : Bool) → b ≡ true → (a && b) ≡ false → a ≡ false
@@ -49,18 +48,15 @@ without_second true true e f = f
 without_second true false e f = absurd (false≢true e)
 
 -- what is due and is neither a block nor our request is our trigger
-listens : (core : Core) → due_core core ≡ true → holds_block core ≡ false → is_requesting core ≡ false → core.phase ≡ 1
-listens core due free other = by (eqb core.phase 1) refl (eqb core.phase 2) refl (eqb core.phase 3) refl (eqb core.phase 4) refl
+listens : (core : Core) → due_core core ≡ true → holds_block core ≡ false → is_requesting core ≡ false → core.phase ≡ Listening
+listens core due free other = by core.phase refl
   where
-    by : (listening : Bool) → eqb core.phase 1 ≡ listening → (startup : Bool) → eqb core.phase 2 ≡ startup
-        → (joining : Bool) → eqb core.phase 3 ≡ joining → (participating : Bool) → eqb core.phase 4 ≡ participating → core.phase ≡ 1
-    by true l startup s joining j participating p = eqb-true core.phase 1 l
-    by false l true s joining j participating p = absurd (false≢true (sym (rw s at other)))
-    by false l false s true j participating p = absurd (false≢true (sym (rw (s, j) at other)))
-    by false l false s false j true p =
-        let four : core.phase ≡ 4 = eqb-true core.phase 4 p in
-        absurd (false≢true (sym (rw four at free) ∙ (rw four at due)))
-    by false l false s false j false p = absurd (false≢true (rw (l, s, j, p) at due))
+    by : (phase : Phase) → core.phase ≡ phase → core.phase ≡ Listening
+    by Off p = absurd (false≢true (rw p at due))
+    by Listening p = p
+    by Startup p = absurd (false≢true (sym (rw p at other)))
+    by Joining p = absurd (false≢true (sym (rw p at other)))
+    by Participating p = absurd (false≢true (sym (rw p at free) ∙ (rw p at due)))
 
 -- what is due with these buffers, and is no block, is sent as the rules say
 pub bare_asked : (core : Core) (members : Members) (memory turn output : List ℕ) → due_core core ≡ true → lent_right memory turn output ≡ true
@@ -74,4 +70,4 @@ bare_asked core members memory turn output due lent free = by (is_requesting cor
     by true e = request_asked core members memory turn output lent due e
     by false e =
         let one = listens core due (without_second (holds_block core) (lent_right memory turn output) lent free) e in
-        triggered (station_of core members) memory turn output lent (ap phase_of one) (rw one at due)
+        triggered (station_of core members) memory turn output lent one (rw one at due)

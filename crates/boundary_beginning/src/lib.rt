@@ -21,7 +21,7 @@ fn fresh(phase: Phase, own: Settings) -> Core
     let gathering = state_parts::nothing();
     let panel = panel::blank();
     Core {
-        phase: boundary_core::phase_number(phase),
+        phase,
         own,
         view: 0,
         block: 0,
@@ -76,7 +76,7 @@ pub fn participate(own: Settings, view: u8) -> Core
     let gathering = state_parts::nothing();
     let panel = state_parts::taken_if(view == own.number, panel::blank());
     Core {
-        phase: boundary_core::PARTICIPATING,
+        phase: Phase::Participating,
         own,
         view,
         block: 0,

@@ -1,6 +1,6 @@
 -- A tick that only counts, of a participant or of a station that does not participate yet. Assumes nothing.
 use Rattle.std.specs.Prelude.{◌≡◌, ◌||◌}
-use Rattle.laws.specs.Usual.{refl, sym, ap, Bool, true, false, cond}
+use Rattle.laws.specs.Usual.{sym, ap, Bool, true, false, cond}
 use Rattle.boundary_answers.specs.Numbers.{ticked_answer}
 use Rattle.boundary_core.specs.Crossing.{station_of, core_of}
 use Rattle.boundary_core.specs.declared.Core.{Core}

@@ -1,7 +1,8 @@
--- The state on both sides of the boundary: the station list is lent apart, and of the rest, the core, only the phase is changed: C has no enums
--- of ours, so it crosses as its number.
+-- The state on both sides of the boundary: the station list is lent apart from the rest, the core. C has no enums of ours, so a phase crosses as
+-- its number.
 use Rattle.std.specs.Prelude.{◌≡◌}
-use Rattle.laws.specs.Usual.{refl, ap, Bool, cond, List, ℕ, eqb}
+use Rattle.laws.specs.Usual.{refl, sym, ap, ◌∙◌, Bool, true, cond, List, ℕ, eqb}
+use Rattle.std.proofs.Common.{eqb-true}
 use Rattle.boundary_lists.specs.Lists.{members_in}
 use Rattle.panel.specs.Panel.{figure_of}
 use Rattle.panel.specs.declared.Figure.TheVariants.{Nothing}
@@ -24,12 +25,12 @@ phase_of number =
 
 -- whether a core is in a phase
 abbrev pub is_in : Phase → Core → Bool
-is_in phase core = eqb core.phase (phase_number phase)
+is_in phase core = eqb (phase_number core.phase) (phase_number phase)
 
 -- a station of a core and a list
 abbrev pub station_of : Core → Members → Station
 station_of core members = record {
-  phase = phase_of core.phase;
+  phase = core.phase;
   own = core.own;
   members = members;
   elapsed = core.elapsed;
@@ -49,7 +50,7 @@ station_in core listed areas watch misses = station_of core (members_in listed a
 -- a station without its list
 abbrev pub core_of : Station → Core
 core_of station = record {
-  phase = phase_number station.phase;
+  phase = station.phase;
   own = station.own;
   elapsed = station.elapsed;
   waited = station.waited;
@@ -61,36 +62,28 @@ core_of station = record {
   panel = station.panel;
 }
 
--- a station in another phase
-abbrev with_phase : Phase → Station → Station
-with_phase phase station = record {
-  phase = phase;
-  own = station.own;
-  members = station.members;
-  elapsed = station.elapsed;
-  waited = station.waited;
-  rounds = station.rounds;
-  sent = station.sent;
-  view = station.view;
-  block = station.block;
-  gathering = station.gathering;
-  panel = station.panel;
-}
-
-phase_kept : (phase : Phase) → phase_of (phase_number phase) ≡ phase
+-- A phase is told by its number.
+pub phase_kept : (phase : Phase) → phase_of (phase_number phase) ≡ phase
 phase_kept Off = refl
 phase_kept Listening = refl
 phase_kept Startup = refl
 phase_kept Joining = refl
 phase_kept Participating = refl
 
--- The conversion loses nothing.
+pub phase_told : (a b : Phase) → phase_number a ≡ phase_number b → a ≡ b
+phase_told a b e = sym (phase_kept a) ∙ ap phase_of e ∙ phase_kept b
+
+-- A core that is in a phase has that phase.
+pub in_phase : (phase : Phase) (core : Core) → is_in phase core ≡ true → core.phase ≡ phase
+in_phase phase core e = phase_told core.phase phase (eqb-true (phase_number core.phase) (phase_number phase) e)
+
+-- Nothing is lost.
 pub station_kept : (station : Station) → station_of (core_of station) station.members ≡ station
-station_kept station = ap (λ phase. with_phase phase station) (phase_kept station.phase)
+station_kept station = refl
 
 -- what the panel shows, by the core alone
 abbrev pub figure_in : Core → Figure
-figure_in core = cond (is_participating (phase_of core.phase)) (figure_of core.panel) Nothing
+figure_in core = cond (is_participating core.phase) (figure_of core.panel) Nothing
 
 pub figure_in_lem : (core : Core) (members : Members) → figure_shown (station_of core members) ≡ figure_in core
 figure_in_lem core members = refl

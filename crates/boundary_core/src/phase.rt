@@ -8,19 +8,13 @@ use station::Phase;
 pub fn phase_of(number: u8) -> Phase
     ensures { result ≡ phase_of number }
 {
-    if number == crate::LISTENING {
-        return Phase::Listening;
+    match number {
+        crate::LISTENING => Phase::Listening,
+        crate::STARTUP => Phase::Startup,
+        crate::JOINING => Phase::Joining,
+        crate::PARTICIPATING => Phase::Participating,
+        _ => Phase::Off,
     }
-    if number == crate::STARTUP {
-        return Phase::Startup;
-    }
-    if number == crate::JOINING {
-        return Phase::Joining;
-    }
-    if number == crate::PARTICIPATING {
-        return Phase::Participating;
-    }
-    Phase::Off
 }
 
 pub fn phase_number(phase: Phase) -> u8

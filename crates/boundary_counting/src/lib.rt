@@ -8,7 +8,7 @@ ghost use Rattle.boundary_lists.specs.Lists.{members_in};
 ghost use Rattle.station.specs.Rules.Ticking.{tick_of};
 
 use boundary_core::{Core, Outcome};
-use station::Ticked;
+use station::{Phase, Ticked};
 
 pub fn tick(
     core: Core,
@@ -28,17 +28,17 @@ pub fn tick(
             answer: boundary_answers::done(),
         };
     }
-    if core.phase == boundary_core::PARTICIPATING {
+    if core.is_in(Phase::Participating) {
         return boundary_silence::tick(core, listed, areas, watch, misses);
     }
-    if core.phase == boundary_core::STARTUP {
+    if core.is_in(Phase::Startup) {
         return boundary_startup::tick_startup(core, listed, areas, watch, misses);
     }
-    if core.phase == boundary_core::JOINING {
+    if core.is_in(Phase::Joining) {
         return boundary_ending::tick_joining(core, listed, areas, watch, misses);
     }
     Outcome {
-        core: boundary_refused::kept(core),
+        core,
         answer: boundary_numbers::ticked_answer(Ticked::Off),
     }
 }

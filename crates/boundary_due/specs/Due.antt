@@ -1,7 +1,7 @@
 -- Whether a frame is due, told by the core alone, since no rule for it looks at the list, and why an asking is refused. Assumes nothing.
 use Rattle.std.specs.Prelude.{◌≡◌, ◌&&◌}
 use Rattle.laws.specs.Usual.{refl, sym, Bool, true, false, cond, false≢true, List, ℕ}
-use Rattle.boundary_core.specs.Crossing.{phase_of, station_of}
+use Rattle.boundary_core.specs.Crossing.{station_of}
 use Rattle.boundary_core.specs.declared.Core.{Core}
 use Rattle.frame.specs.declared.Refusal.TheVariants.{NotDue, Buffer}
 use Rattle.members.specs.Members.{no_members}
@@ -11,7 +11,7 @@ use Rattle.station.specs.declared.Phase.{Phase}
 use Rattle.station.specs.declared.Phase.TheVariants.{Off, Listening, Startup, Joining, Participating}
 
 abbrev pub due_core : Core → Bool
-due_core core = due_in (phase_of core.phase) (station_of core no_members)
+due_core core = due_in core.phase (station_of core no_members)
 
 -- why an asking is refused: 11 before 10
 abbrev pub ask_refusal : Bool → Refusal
@@ -28,13 +28,13 @@ module _ (core : Core) (members : Members) where
   -- an asking of a core with wrong buffers, or with no frame due, is refused
   pub refused_asked : (memory turn output : List ℕ) → (lent_right memory turn output && due_core core) ≡ false
       → ask_of (station_of core members) memory turn output ≡ refused (station_of core members) turn output (ask_refusal (lent_right memory turn output))
-  refused_asked memory turn output e = by (lent_right memory turn output) (due_in (phase_of core.phase) (station_of core members)) (rw (same_due (phase_of core.phase)) e)
+  refused_asked memory turn output e = by (lent_right memory turn output) (due_in core.phase (station_of core members)) (rw (same_due core.phase) e)
     where
       result : Bool → Bool → Asking
       result lent due =
           cond lent
           (cond due
-          (written (station_of core members) (turn_after (phase_of core.phase) (station_of core members) memory turn) output)
+          (written (station_of core members) (turn_after core.phase (station_of core members) memory turn) output)
           (refused (station_of core members) turn output NotDue))
           (refused (station_of core members) turn output Buffer)
 

@@ -4,18 +4,17 @@
 ghost use Rattle.std.specs.Prelude.{◌≡◌};
 ghost use Rattle.boundary_due.specs.Due.{due_core, ask_refusal};
 
-use boundary_core::{Core, phase_of};
+use boundary_core::Core;
 use frame::Refusal;
 use station::Phase;
 
 pub fn is_due(core: Core) -> bool
     ensures { result ≡ due_core core }
 {
-    let phase = phase_of(core.phase);
     let own = core.own;
     let elapsed = core.elapsed;
     let waited = core.waited;
-    match phase {
+    match core.phase {
         Phase::Off => false,
         Phase::Listening => waits_lengths::listening_time(own.number).0 <= elapsed.0,
         Phase::Startup => (waits_lengths::number_wait(own.number).0 <= elapsed.0) & !core.sent,

@@ -15,7 +15,7 @@ use Rattle.station.specs.Rules.State.{fresh}
 use Rattle.station.specs.Rules.Ticking.{Ticking, tick_of, later, wait_ends}
 use Rattle.station.specs.Rules.Waits.{detection_wait, acceptance_time}
 use Rattle.station.specs.Types.{Members}
-use Rattle.station.specs.declared.Phase.TheVariants.{Listening}
+use Rattle.station.specs.declared.Phase.TheVariants.{Listening, Startup, Joining}
 use Rattle.station.specs.declared.Station.{Station}
 use Rattle.station.specs.declared.Ticked.TheVariants.{Done}
 
@@ -42,7 +42,7 @@ module _ (core : Core) (members : Members) where
   FallsDue = (tick_of (station_of core members) ≡ record { station = station_of after_due members; answer = Done }) × (after_due ≡ core_of (station_of after_due members))
 
   -- in ring startup
-  module _ (two : core.phase ≡ 2) where
+  module _ (two : core.phase ≡ Startup) where
     pub startup_ends_lem : leb acceptance_time (waited_core core).elapsed.0 ≡ true
         → tick_of (station_of core members) ≡ record { station = started_up core.own members (numbers_of members); answer = Done }
     startup_ends_lem ends = let time : leb acceptance_time (later acceptance_time core.elapsed).0 ≡ true = rw two at ends in rw (two, time)
@@ -55,7 +55,7 @@ module _ (core : Core) (members : Members) where
         (rw (two, time, wait), rw two)
 
   -- in joining
-  module _ (three : core.phase ≡ 3) where
+  module _ (three : core.phase ≡ Joining) where
     pub joining_ends_lem : leb detection_wait (waited_core core).elapsed.0 ≡ true
         → tick_of (station_of core members) ≡ record { station = fresh Listening core.own; answer = Done }
     joining_ends_lem ends = let time : leb detection_wait (later detection_wait core.elapsed).0 ≡ true = rw three at ends in rw (three, time)

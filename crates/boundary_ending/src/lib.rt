@@ -9,6 +9,7 @@ ghost use Rattle.boundary_lists.specs.Lists.{members_in};
 ghost use Rattle.boundary_waiting.specs.Waiting.{is_waiting};
 ghost use Rattle.station.specs.Rules.Ticking.{tick_of};
 ghost use Rattle.station.specs.declared.Ticked.TheVariants.{Done};
+ghost use Rattle.station.specs.declared.Phase.TheVariants.{Joining};
 
 use boundary_core::{Core, Outcome};
 use station::Phase;
@@ -30,7 +31,7 @@ pub fn tick_joining(
     watch: &mut [u8; 256],
     misses: &mut [u8; 256],
 ) -> Outcome
-    requires phase_value { core.phase ≡ 3 }
+    requires phase_value { core.phase ≡ Joining }
     requires core_value { is_waiting core ≡ false }
     ensures core_value_2 { result.core ≡ core_of (tick_of (station_in core listed.old areas.old watch.old misses.old)).station }
     ensures answer_value { result.answer ≡ ticked_answer (tick_of (station_in core listed.old areas.old watch.old misses.old)).answer }

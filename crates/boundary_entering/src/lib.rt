@@ -4,7 +4,7 @@
 ghost use Rattle.std.specs.Prelude.{◌≡◌};
 ghost use Rattle.laws.specs.Usual.{cond, ltb};
 ghost use Rattle.boundary_answers.specs.Numbers.{heard_answer};
-ghost use Rattle.boundary_core.specs.Crossing.{phase_of, core_of, station_in};
+ghost use Rattle.boundary_core.specs.Crossing.{core_of, station_in};
 ghost use Rattle.boundary_entering.specs.Effects.{effect_of};
 ghost use Rattle.boundary_entering.specs.Entering.{requested_core, joined_core, fallen_core, ours_in};
 ghost use Rattle.boundary_lists.specs.Lists.{members_in};
@@ -17,7 +17,7 @@ ghost use Rattle.station.specs.declared.Phase.TheVariants as phases;
 
 use area::Areas;
 use boundary_beginning::begin;
-use boundary_core::{Core, Outcome, phase_of};
+use boundary_core::{Core, Outcome};
 use frame::{Code, Fields};
 use station::{Phase, Settings};
 
@@ -92,12 +92,11 @@ fn effect_of(phase: Phase, code: Code) -> Effect
 fn has_fallen(core: Core) -> bool
     ensures { result ≡ fallen_core core }
 {
-    let phase = phase_of(core.phase);
     let number = core.own.number;
     let elapsed = core.elapsed;
     let waited = core.waited;
     let wait = waits_lengths::number_wait(number);
-    match phase {
+    match core.phase {
         Phase::Off => false,
         Phase::Listening => false,
         Phase::Startup => wait.0 <= elapsed.0,
@@ -145,7 +144,6 @@ fn request(
         ours,
     );
     let gathering = state_parts::without(frame.source, before);
-    let core = boundary_refused::kept(core);
     Core { gathering, ..core }
 }
 
@@ -185,7 +183,7 @@ fn join(core: Core, frame: Fields) -> Core
     let rounds = hearing_joining::rounds_after(core.rounds, frame);
     let view = hearing_joining::destination_after(core.view, frame);
     Core {
-        phase: boundary_core::JOINING,
+        phase: Phase::Joining,
         elapsed,
         rounds,
         sent: false,
@@ -220,18 +218,15 @@ pub fn hear(
     misses: &mut [u8; 256],
     frame: Fields,
 ) -> Outcome
-    ensures core_value { result.core ≡ core_of (enters (phase_of core.phase) frame.code (station_in core listed.old areas.old watch.old misses.old) frame) }
-    ensures answer_value { result.answer ≡ heard_answer (enters_answer (phase_of core.phase) frame.code) }
-    ensures misses_after { members_in listed.new areas.new watch.new misses.new ≡ (enters (phase_of core.phase) frame.code (station_in core listed.old areas.old watch.old misses.old) frame).members }
+    ensures core_value { result.core ≡ core_of (enters core.phase frame.code (station_in core listed.old areas.old watch.old misses.old) frame) }
+    ensures answer_value { result.answer ≡ heard_answer (enters_answer core.phase frame.code) }
+    ensures misses_after { members_in listed.new areas.new watch.new misses.new ≡ (enters core.phase frame.code (station_in core listed.old areas.old watch.old misses.old) frame).members }
 {
     let code = frame.code;
-    let phase = phase_of(core.phase);
+    let phase = core.phase;
     let answer = boundary_numbers::heard_answer(hearing_token::answer(phase, code));
     match effect_of(phase, code) {
-        Effect::Nothing => Outcome {
-            core: boundary_refused::kept(core),
-            answer,
-        },
+        Effect::Nothing => Outcome { core, answer },
         Effect::Listed => {
             let core = request(core, listed, areas, watch, misses, frame);
             Outcome { core, answer }

@@ -7,7 +7,7 @@ ghost use Rattle.boundary_figure.specs.Figures.{gap_kind, kind_of, gap_ticks, ti
 use panel::Figure;
 use units::Ticks;
 
-// What the panel shows, and its text.
+// What the panel shows, and its text: numbers and an array with its length, as C has them (`flnet_figure`).
 #[repr(C)]
 #[derive(Clone, Copy)]
 pub struct Shown {

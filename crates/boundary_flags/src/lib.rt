@@ -29,6 +29,7 @@ fn skip(listed: &[bool; 256], from: usize, end: usize) -> usize
     ensures { first_from result (flagged listed.now) ≡ first_from from (flagged listed.now) }
 {
     let mut number = from;
+    // No `for`: it stops where fewer than sixteen are left, and a range by sixteens does not tell that place.
     while number + 16 <= end {
         if any_of_sixteen(listed, number) {
             return number;
@@ -44,12 +45,10 @@ pub fn first_listed(listed: &[bool; 256], from: usize, end: usize) -> usize
     requires end_bound { end ≤ 256 }
     ensures { result ≡ min end (number_or end (first_from from (flagged listed.now))) }
 {
-    let mut number = skip(listed, from, end);
-    while number < end {
+    for number in skip(listed, from, end)..end {
         if listed[number] {
             return number;
         }
-        number += 1;
     }
     end
 }

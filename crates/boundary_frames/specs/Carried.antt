@@ -1,9 +1,9 @@
 -- What a hearing leaves, of a core that was read out of the numbers, is what it leaves of the core that they hold. Assumes nothing.
-use Rattle.std.specs.Prelude.{◌≡◌}
+use Rattle.std.specs.Prelude.{Ok, ◌≡◌}
 use Rattle.laws.specs.Usual.{sym, ap, ◌∙◌, true, false, List, ℕ}
 use Rattle.boundary_answers.specs.Numbers.{heard_answer}
 use Rattle.boundary_answers.specs.declared.Answer.{Answer}
-use Rattle.boundary_core.specs.Crossing.{phase_of, core_of, station_of}
+use Rattle.boundary_core.specs.Crossing.{core_of, station_of}
 use Rattle.boundary_core.specs.declared.Core.{Core}
 use Rattle.boundary_entering.specs.Entering.{for_participant, heard_entered}
 use Rattle.boundary_places.specs.Places.{core_in, kept}
@@ -12,7 +12,7 @@ use Rattle.boundary_told.specs.Routes.{told_read}
 use Rattle.boundary_told.specs.Told.{route_of, with_frame, heard_told}
 use Rattle.frame_reading.specs.Reading.{read_of}
 use Rattle.station.specs.Rules.Hearing.{Hearing, lent_right, enters, enters_answer, hear_of}
-use Rattle.station.specs.Types.{Members, Fields, Frame}
+use Rattle.station.specs.Types.{Members, Fields}
 use Rattle.station.specs.declared.Station.{Station}
 
 -- the numbers, the answer, both buffers and the list after a hearing
@@ -43,13 +43,13 @@ carried call octets before e left = (
 -- What a frame leaves that no participant takes as a cyclic one.
 module _ (core : Core) (members : Members) (octets memory assembly before : List ℕ) (frame : Fields) where
   abbrev begun : Station
-  begun = enters (phase_of core.phase) frame.code (station_of core members) frame
+  begun = enters core.phase frame.code (station_of core members) frame
 
   pub entered_leaves : {after : List ℕ} {answer : Answer} {left : Members} → is_taken_by core frame ≡ false → for_participant core frame ≡ false
-      → lent_right memory assembly ≡ true → read_of octets ≡ Frame frame
+      → lent_right memory assembly ≡ true → read_of octets ≡ Ok frame
       → (core_in after ≡ core_of begun)
       × ((after ≡ kept before (core_of begun))
-      × ((answer ≡ with_frame (heard_answer (enters_answer (phase_of core.phase) frame.code)) (route_of frame)) × (left ≡ begun.members)))
+      × ((answer ≡ with_frame (heard_answer (enters_answer core.phase frame.code)) (route_of frame)) × (left ≡ begun.members)))
       → Leaves octets before after answer memory assembly left (hear_of (station_of core members) octets memory assembly)
   entered_leaves free other lent read done =
       let law = heard_entered core members octets memory assembly frame free other lent read in (

@@ -2,17 +2,16 @@
 // hold.
 #![tactic(auto)]
 
-ghost use Rattle.std.specs.Prelude.{◌≡◌};
+ghost use Rattle.std.specs.Prelude.{Ok, ◌≡◌};
 ghost use Rattle.laws.specs.Usual.{true, false, get_or};
 ghost use Rattle.boundary_answers.specs.Numbers.{heard_answer};
-ghost use Rattle.boundary_core.specs.Crossing.{phase_of, core_of, station_in};
+ghost use Rattle.boundary_core.specs.Crossing.{core_of, station_in};
 ghost use Rattle.boundary_lists.specs.Lists.{members_in};
 ghost use Rattle.boundary_participant.specs.Quick.{is_accepted};
 ghost use Rattle.boundary_places.specs.Places.{core_in, kept};
 ghost use Rattle.boundary_refused.specs.Taken.{is_taken_by};
 ghost use Rattle.boundary_told.specs.Told.{route_of, with_frame, heard_told};
 ghost use Rattle.frame_reading.specs.Reading.{read_of};
-ghost use Rattle.frame_reading.specs.declared.Read.TheVariants as reads;
 ghost use Rattle.station.specs.Rules.Hearing.{lent_right, enters, enters_answer, hear_of};
 
 use boundary_core::{Answer, Core};
@@ -20,6 +19,7 @@ use boundary_keeping::keep;
 use boundary_reading::core_in;
 use boundary_told::tell_read;
 use frame::{Fields, Refusal};
+use station::Phase;
 
 // A cyclic frame that a participant accepts.
 fn hear_cyclic(
@@ -36,7 +36,7 @@ fn hear_cyclic(
 ) -> Answer
     requires frame_value { is_accepted state (get_or listed.old frame.source false) (get_or listed.old frame.destination false) frame ≡ true }
     requires assembly_value { lent_right memory.old assembly.old ≡ true }
-    requires octets_value { read_of octets.now ≡ reads.Frame frame }
+    requires octets_value { read_of octets.now ≡ Ok frame }
     ensures core_after { core_in core.new ≡ core_of (hear_of (station_in state listed.old areas.old watch.old misses.old) octets.now memory.old assembly.old).station }
     ensures core_after_2 { core.new ≡ kept core.old (core_of (hear_of (station_in state listed.old areas.old watch.old misses.old) octets.now memory.old assembly.old).station) }
     ensures value { result ≡ heard_told octets.now (hear_of (station_in state listed.old areas.old watch.old misses.old) octets.now memory.old assembly.old).answer }
@@ -74,10 +74,10 @@ fn hear_seldom(
     misses: &mut [u8; 256],
     frame: Fields,
 ) -> Answer
-    ensures core_after { core_in core.new ≡ core_of (enters (phase_of state.phase) frame.code (station_in state listed.old areas.old watch.old misses.old) frame) }
-    ensures core_after_2 { core.new ≡ kept core.old (core_of (enters (phase_of state.phase) frame.code (station_in state listed.old areas.old watch.old misses.old) frame)) }
-    ensures value { result ≡ with_frame (heard_answer (enters_answer (phase_of state.phase) frame.code)) (route_of frame) }
-    ensures misses_after { members_in listed.new areas.new watch.new misses.new ≡ (enters (phase_of state.phase) frame.code (station_in state listed.old areas.old watch.old misses.old) frame).members }
+    ensures core_after { core_in core.new ≡ core_of (enters state.phase frame.code (station_in state listed.old areas.old watch.old misses.old) frame) }
+    ensures core_after_2 { core.new ≡ kept core.old (core_of (enters state.phase frame.code (station_in state listed.old areas.old watch.old misses.old) frame)) }
+    ensures value { result ≡ with_frame (heard_answer (enters_answer state.phase frame.code)) (route_of frame) }
+    ensures misses_after { members_in listed.new areas.new watch.new misses.new ≡ (enters state.phase frame.code (station_in state listed.old areas.old watch.old misses.old) frame).members }
 {
     let heard = boundary_entering::hear(state, listed, areas, watch, misses, frame);
     let answer = heard.answer;
@@ -99,7 +99,7 @@ pub fn hear_frame(
 ) -> Answer
     requires frame_value { is_taken_by (core_in core.old) frame ≡ false }
     requires assembly_value { lent_right memory.old assembly.old ≡ true }
-    requires octets_value { read_of octets.now ≡ reads.Frame frame }
+    requires octets_value { read_of octets.now ≡ Ok frame }
     ensures core_after { core_in core.new ≡ core_of (hear_of (station_in (core_in core.old) listed.old areas.old watch.old misses.old) octets.now memory.old assembly.old).station }
     ensures core_after_2 { core.new ≡ kept core.old (core_of (hear_of (station_in (core_in core.old) listed.old areas.old watch.old misses.old) octets.now memory.old assembly.old).station) }
     ensures value { result ≡ heard_told octets.now (hear_of (station_in (core_in core.old) listed.old areas.old watch.old misses.old) octets.now memory.old assembly.old).answer }
@@ -108,7 +108,7 @@ pub fn hear_frame(
     ensures misses_after { members_in listed.new areas.new watch.new misses.new ≡ (hear_of (station_in (core_in core.old) listed.old areas.old watch.old misses.old) octets.now memory.old assembly.old).station.members }
 {
     let state = core_in(core);
-    if state.phase != boundary_core::PARTICIPATING {
+    if !state.is_in(Phase::Participating) {
         return hear_seldom(core, state, listed, areas, watch, misses, frame);
     }
     let source = frame.source;

@@ -1,7 +1,7 @@
-// What a call hands back: its core in the numbers that C keeps, with its answer, or the numbers as they are.
+// What a call hands back: its core in the numbers that C keeps, with its answer.
 #![tactic(auto)]
 
-ghost use Rattle.std.specs.Prelude.{◌≡◌, ◌≤◌};
+ghost use Rattle.std.specs.Prelude.{◌≡◌};
 ghost use Rattle.laws.specs.Usual.{length};
 ghost use Rattle.boundary_places.specs.Places.{core_in, kept};
 
@@ -9,22 +9,11 @@ use boundary_core::{Answer, Outcome};
 use boundary_keeping::keep;
 use boundary_places::NUMBERS;
 
-fn are_eighteen(numbers: &[u32])
-    requires { length numbers.now ≡ 18 }
-    ensures { length numbers.now ≡ 18 }
-{}
-
-// Nothing is done to the numbers. A proof is told here how many they are.
-pub fn leave(numbers: &[u32; NUMBERS])
-    ensures { length numbers.now ≡ 18 }
-{
-    are_eighteen(numbers);
-}
-
 // Puts the core that a call leaves into the numbers, and hands its answer on.
 pub fn keep_outcome(numbers: &mut [u32; NUMBERS], outcome: Outcome) -> Answer
     ensures numbers_after { numbers.new ≡ kept numbers.old outcome.core }
-    ensures numbers_after_2 { outcome.core.phase ≤ 4 → core_in numbers.new ≡ outcome.core }
+    ensures numbers_after_2 { core_in numbers.new ≡ outcome.core }
+    ensures numbers_len { length numbers.new ≡ 18 }
     ensures value { result ≡ outcome.answer }
 {
     let answer = outcome.answer;

@@ -1,7 +1,7 @@
 // An accepted cyclic frame heard by a participant, on its core alone.
 #![tactic(auto)]
 
-ghost use Rattle.std.specs.Prelude.{◌≡◌};
+ghost use Rattle.std.specs.Prelude.{Ok, ◌≡◌};
 ghost use Rattle.laws.specs.Usual.{true, length};
 ghost use Rattle.frame.specs.Codes.{is_cyclic};
 ghost use Rattle.hearing_token.specs.Parts.{outcome_by};
@@ -9,7 +9,6 @@ ghost use Rattle.boundary_answers.specs.Numbers.{cyclic_answer};
 ghost use Rattle.boundary_told.specs.Told.{route_of, with_frame};
 ghost use Rattle.boundary_participant.specs.Quick.{restarted_core};
 ghost use Rattle.frame_reading.specs.Reading.{read_body_of, data_of};
-ghost use Rattle.frame_reading.specs.declared.Read.TheVariants as reads;
 ghost use Rattle.station.specs.Rules.Data.{gathered_from};
 ghost use Rattle.station.specs.Rules.Hearing.{lent_right};
 ghost use Rattle.station.specs.Rules.Token.{view_heard};
@@ -29,7 +28,7 @@ pub fn hear_accepted(
     assembly: &mut [u8],
 ) -> Outcome
     requires assembly_value { lent_right memory.old assembly.old ≡ true }
-    requires frame_value { read_body_of (length octets.now) frame ≡ reads.Frame frame }
+    requires frame_value { read_body_of (length octets.now) frame ≡ Ok frame }
     requires code_value { is_cyclic frame.code ≡ true }
     ensures core_value { result.core ≡ restarted_core core (view_heard core.view frame) (gathered_from core.gathering listed frame (data_of octets.now frame) assembly.old memory.old).gathering }
     ensures answer_value { result.answer ≡ with_frame (cyclic_answer (outcome_by core.own.number core.view frame (gathered_from core.gathering listed frame (data_of octets.now frame) assembly.old memory.old).outcome)) (route_of frame) }

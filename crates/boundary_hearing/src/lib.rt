@@ -1,7 +1,7 @@
 // Hearing, on the core in numbers and the list in arrays. A refused frame touches neither, but for number 6 before we participate.
 #![tactic(auto)]
 
-ghost use Rattle.std.specs.Prelude.{◌≡◌, ◌&&◌};
+ghost use Rattle.std.specs.Prelude.{Ok, ◌≡◌, ◌&&◌};
 ghost use Rattle.laws.specs.Usual.{true, false, not};
 ghost use Rattle.boundary_answers.specs.Numbers.{heard_answer};
 ghost use Rattle.boundary_core.specs.Crossing.{core_of, station_in};
@@ -10,7 +10,6 @@ ghost use Rattle.boundary_places.specs.Places.{core_in, kept};
 ghost use Rattle.boundary_refused.specs.Taken.{is_taken_by};
 ghost use Rattle.boundary_told.specs.Told.{heard_told};
 ghost use Rattle.frame_reading.specs.Reading.{read_header_of};
-ghost use Rattle.frame_reading.specs.declared.Read.TheVariants as reads;
 ghost use Rattle.station.specs.Rules.Hearing.{lent_right, hear_of};
 
 use boundary_answers::refused;
@@ -18,7 +17,7 @@ use boundary_core::Answer;
 use boundary_keeping::keep;
 use boundary_reading::core_in;
 use frame::{Fields, Refusal};
-use frame_reading::Read;
+use station::Phase;
 
 // A frame refused by 11 or 6, whatever its body.
 fn hear_barred(
@@ -33,7 +32,7 @@ fn hear_barred(
     assembly: &mut [u8],
 ) -> Answer
     requires header_value { (lent_right memory.old assembly.old && not (is_taken_by (core_in core.old) header)) ≡ false }
-    requires octets_value { read_header_of octets.now ≡ reads.Frame header }
+    requires octets_value { read_header_of octets.now ≡ Ok header }
     ensures core_after { core_in core.new ≡ core_of (hear_of (station_in (core_in core.old) listed.old areas.old watch.old misses.old) octets.now memory.old assembly.old).station }
     ensures core_after_2 { core.new ≡ kept core.old (core_of (hear_of (station_in (core_in core.old) listed.old areas.old watch.old misses.old) octets.now memory.old assembly.old).station) }
     ensures value { result ≡ heard_answer (hear_of (station_in (core_in core.old) listed.old areas.old watch.old misses.old) octets.now memory.old assembly.old).answer }
@@ -46,7 +45,7 @@ fn hear_barred(
     if !lent {
         return refused(Refusal::Buffer);
     }
-    if state.phase == boundary_core::PARTICIPATING {
+    if state.is_in(Phase::Participating) {
         return refused(Refusal::Taken);
     }
     let stopped = boundary_running::stop(state, listed, areas, watch, misses);
@@ -67,7 +66,7 @@ fn hear_read(
     memory: &mut [u8],
     assembly: &mut [u8],
 ) -> Answer
-    requires { read_header_of octets.now ≡ reads.Frame header }
+    requires { read_header_of octets.now ≡ Ok header }
     ensures core_after { core_in core.new ≡ core_of (hear_of (station_in (core_in core.old) listed.old areas.old watch.old misses.old) octets.now memory.old assembly.old).station }
     ensures core_after_2 { core.new ≡ kept core.old (core_of (hear_of (station_in (core_in core.old) listed.old areas.old watch.old misses.old) octets.now memory.old assembly.old).station) }
     ensures value { result ≡ heard_told octets.now (hear_of (station_in (core_in core.old) listed.old areas.old watch.old misses.old) octets.now memory.old assembly.old).answer }
@@ -79,10 +78,10 @@ fn hear_read(
     let state = core_in(core);
     if lent & !boundary_refused::is_taken(state, header) {
         return match frame_body::read_body(octets.len(), header) {
-            Read::Frame(frame) => boundary_frames::hear_frame(
+            Ok(frame) => boundary_frames::hear_frame(
                 core, listed, areas, watch, misses, frame, octets, memory, assembly,
             ),
-            Read::Refused(refusal) => refused(refusal),
+            Err(refusal) => refused(refusal),
         };
     }
     let answer = hear_barred(
@@ -110,12 +109,9 @@ pub fn hear(
 {
     let lent = (memory.len() == area::MEMORY_OCTETS) & (assembly.len() == area::MEMORY_OCTETS);
     match frame_reading::read_header(octets) {
-        Read::Frame(header) => hear_read(
+        Ok(header) => hear_read(
             core, listed, areas, watch, misses, header, octets, memory, assembly,
         ),
-        Read::Refused(refusal) => {
-            boundary_handing::leave(core);
-            refused(boundary_refused::heard_refusal(lent, refusal))
-        }
+        Err(refusal) => refused(boundary_refused::heard_refusal(lent, refusal)),
     }
 }

@@ -1,8 +1,7 @@
 -- A participant that holds and sends a block, on its core; and that it is asked as its station is.
 -- A core's phase is a number, and 4 is that of participating, by which the proofs here go.
-use Rattle.std.specs.Prelude.{◌≡◌, ◌&&◌, ◌+◌}
+use Rattle.std.specs.Prelude.{Ok, ◌≡◌, ◌&&◌, ◌+◌}
 use Rattle.laws.specs.Usual.{Bool, true, cond, List, ℕ, drop, eqb}
-use Rattle.std.proofs.Common.{eqb-true}
 use Rattle.station.specs.Rules.Asking.{placed_in, last_in, next_fields, turn_for}
 use Rattle.block.specs.Blocks.{start_of}
 use Rattle.laws.specs.Tests.{first, second}
@@ -10,11 +9,10 @@ use Rattle.members.specs.Members.{next_after}
 use Rattle.panel.specs.Panel.{after_taking}
 use Rattle.station.specs.Rules.Answers.{phase_number}
 use Rattle.station.specs.Rules.State.{no_ticks}
-use Rattle.station.specs.declared.Asked.TheVariants.{Octets}
 use Rattle.station.specs.Types.{Members}
 use Rattle.station.specs.declared.Phase.TheVariants.{Participating}
 use Rattle.frame_writing.specs.Writing.{whole_length, output_of}
-use Rattle.boundary_core.specs.Crossing.{station_of, is_in}
+use Rattle.boundary_core.specs.Crossing.{station_of, is_in, in_phase}
 use Rattle.boundary_core.specs.declared.Core.{Core}
 use Rattle.station.specs.Rules.Asking as asks
 
@@ -26,12 +24,12 @@ pub held_placed : (core : Core) → holds_block core ≡ true → placed_in core
 held_placed core e =
     let held = eqb core.view core.own.number in
     let placed = placed_in core.own.areas core.block in
-    second held placed (second (eqb core.phase 4) (held && placed) e)
+    second held placed (second (eqb (phase_number core.phase) 4) (held && placed) e)
 
 -- it after the block is sent, with the number that is next after ours
 abbrev pub sent_core : Core → ℕ → Core
 sent_core core next = record {
-  phase = phase_number Participating;
+  phase = Participating;
   own = core.own;
   elapsed = no_ticks;
   waited = core.waited;
@@ -48,7 +46,7 @@ pub held_asked : (core : Core) (members : Members) (memory turn output : List �
     → asks.ask_of (station_of core members) memory turn output
     ≡ record {
       station = station_of (sent_core core (next_after core.own.number members core.own.number)) members;
-      answer = Octets (whole_length (next_fields core.own core.block (next_after core.own.number members core.own.number)));
+      answer = Ok (whole_length (next_fields core.own core.block (next_after core.own.number members core.own.number)));
       turn = turn_for core.own.areas core.block memory turn;
       output =
           output_of (next_fields core.own core.block (next_after core.own.number members core.own.number))
@@ -56,6 +54,6 @@ pub held_asked : (core : Core) (members : Members) (memory turn output : List �
           output;
     }
 held_asked core members memory turn output holds lent =
-    let four = eqb-true core.phase 4 (first (eqb core.phase 4) (eqb core.view core.own.number && placed_in core.own.areas core.block) holds) in
-    let due = second (eqb core.phase 4) (eqb core.view core.own.number && placed_in core.own.areas core.block) holds in
+    let four = in_phase Participating core (first (eqb (phase_number core.phase) 4) (eqb core.view core.own.number && placed_in core.own.areas core.block) holds) in
+    let due = second (eqb (phase_number core.phase) 4) (eqb core.view core.own.number && placed_in core.own.areas core.block) holds in
     rw (lent, four, due)

@@ -6,13 +6,14 @@ ghost use Rattle.laws.specs.Usual.{true};
 ghost use Rattle.boundary_holder.specs.Held.{holds_block, sent_core};
 
 use boundary_core::Core;
+use station::Phase;
 use units::Ticks;
 
 pub fn holds_block(core: Core) -> bool
     ensures { result ≡ holds_block core }
 {
     let own = core.own;
-    (core.phase == boundary_core::PARTICIPATING)
+    core.is_in(Phase::Participating)
         & ((core.view == own.number) & asking_placing::is_placed(own, core.block))
 }
 
@@ -26,7 +27,7 @@ pub fn sent_block(core: Core, next: u8) -> Core
     let after = asking_placing::after_block(own, core.view, core.block, counter, next);
     let panel = after.panel;
     Core {
-        phase: boundary_core::PARTICIPATING,
+        phase: Phase::Participating,
         elapsed: Ticks(0),
         view: after.view,
         block: after.block,

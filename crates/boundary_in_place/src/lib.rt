@@ -1,14 +1,13 @@
 // A participant's cyclic frame that is accepted, heard with the list in place.
 #![tactic(auto)]
 
-ghost use Rattle.std.specs.Prelude.{◌≡◌};
+ghost use Rattle.std.specs.Prelude.{Ok, ◌≡◌};
 ghost use Rattle.laws.specs.Usual.{true, false, get_or};
 ghost use Rattle.boundary_core.specs.Crossing.{core_of, station_in};
 ghost use Rattle.boundary_told.specs.Told.{heard_told};
 ghost use Rattle.boundary_participant.specs.Quick.{is_accepted};
 ghost use Rattle.boundary_lists.specs.Lists.{members_in};
 ghost use Rattle.frame_reading.specs.Reading.{read_of};
-ghost use Rattle.frame_reading.specs.declared.Read.TheVariants as reads;
 ghost use Rattle.station.specs.Rules.Hearing.{lent_right, hear_of};
 
 use boundary_core::{Core, Outcome};
@@ -31,7 +30,7 @@ pub fn hear(
 ) -> Outcome
     requires frame_value { is_accepted core (get_or listed.old frame.source false) (get_or listed.old frame.destination false) frame ≡ true }
     requires assembly_value { lent_right memory.old assembly.old ≡ true }
-    requires octets_value { read_of octets.now ≡ reads.Frame frame }
+    requires octets_value { read_of octets.now ≡ Ok frame }
     requires source_value { source ≡ frame.source }
     requires destination_value { destination ≡ frame.destination }
     ensures core_value { result.core ≡ core_of (hear_of (station_in core listed.old areas.old watch.old misses.old) octets.now memory.old assembly.old).station }

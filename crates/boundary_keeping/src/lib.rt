@@ -1,21 +1,22 @@
 // A core put into the numbers that C keeps, in place.
 #![tactic(auto)]
 
-ghost use Rattle.std.specs.Prelude.{◌≡◌, ◌≤◌};
+ghost use Rattle.std.specs.Prelude.{◌≡◌};
 ghost use Rattle.boundary_places.specs.Places.{core_in, with_phase, kept};
 
-use boundary_core::Core;
+use boundary_core::{Core, phase_number};
 use boundary_places::NUMBERS;
 use boundary_reading::phase_in;
 use low_parts::{with_flag, with_octet, with_octets};
+use station::Phase;
 
-fn with_phase(number: u32, phase: u8) -> u32
+fn with_phase(number: u32, phase: Phase) -> u32
     ensures { result ≡ with_phase number phase }
 {
     if phase_in(number) == phase {
         number
     } else {
-        with_octet(number, phase)
+        with_octet(number, phase_number(phase))
     }
 }
 
@@ -44,10 +45,10 @@ fn put(numbers: &mut [u32; NUMBERS], core: Core)
     ];
 }
 
-// Puts a core into the numbers, which hold it then if its phase is one of the five.
+// Puts a core into the numbers, which hold it then.
 pub fn keep(numbers: &mut [u32; NUMBERS], core: Core)
     ensures numbers_after { numbers.new ≡ kept numbers.old core }
-    ensures numbers_after_2 { core.phase ≤ 4 → core_in numbers.new ≡ core }
+    ensures numbers_after_2 { core_in numbers.new ≡ core }
 {
     put(numbers, core);
 }

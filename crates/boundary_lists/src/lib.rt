@@ -1,5 +1,7 @@
 // The station list in arrays of numbers, which a host can lend and a call can change in place. A number's flag, watch time and misses stand
-// at the number's place, its areas in the four places from four times the number on.
+// at the number's place, its areas in the four places from four times the number on. C lends the four arrays apart (each call that takes `listed`
+// in `flnet_station`), and each goes on as it was lent: a struct of four references would have to be made in each exported call, and each contract
+// would name its four fields where it now names the arrays.
 #![tactic(auto)]
 
 ghost use Rattle.std.specs.Prelude.{◌≡◌};

@@ -11,7 +11,7 @@ use Rattle.ticking_quiet.specs.Many.{after_ticks}
 use Rattle.ticking_calm.specs.Calm.{calm_in, calm_of, calm_after}
 use Rattle.ticking_calm.specs.CalmTicks.{calm_ticks, calm_few}
 use Rattle.ticking_calm.specs.declared.Counts.{Counts}
-use Rattle.boundary_core.specs.Crossing.{phase_of, station_of, core_of}
+use Rattle.boundary_core.specs.Crossing.{station_of, core_of}
 use Rattle.boundary_core.specs.declared.Core.{Core}
 
 -- the counts of a core, and the core with others
@@ -35,7 +35,7 @@ recounted core counts = record {
 -- all of the next ticks only count, where the watch runs for a time
 abbrev pub is_calm : Core → Milliseconds → ℕ → Bool
 is_calm core time count =
-    eqb (calm_in (phase_of core.phase) core.own.number time core.rounds core.elapsed core.waited count) count
+    eqb (calm_in core.phase core.own.number time core.rounds core.elapsed core.waited count) count
 
 -- the core after them
 abbrev pub calm_core : ℕ → Core → Core
@@ -50,9 +50,9 @@ calm_station core members count timed calm =
 -- a tick that does more is a tick
 pub some_left : (core : Core) (time : Milliseconds) (count : ℕ) {calm : Bool} → calm ≡ is_calm core time count → not calm ≡ true → 0 < count
 some_left core time zero {calm} known loud =
-    let few = calm_few (phase_of core.phase) core.own.number time core.rounds core.elapsed core.waited 0 in
+    let few = calm_few core.phase core.own.number time core.rounds core.elapsed core.waited 0 in
     absurd
     (false≢true
     (sym (not-true calm loud) ∙ known
-    ∙ eq-eqb (calm_in (phase_of core.phase) core.own.number time core.rounds core.elapsed core.waited 0) 0 (omega arith)))
+    ∙ eq-eqb (calm_in core.phase core.own.number time core.rounds core.elapsed core.waited 0) 0 (omega arith)))
 some_left core time (suc count) known loud = omega arith

@@ -10,7 +10,7 @@ use Rattle.ticking_jump.specs.JumpTicks.{Jumps, jump_ticks}
 use Rattle.ticking_jump.specs.declared.Jumped.{Jumped}
 use Rattle.boundary_lists.specs.Lists.{next_in}
 use Rattle.boundary_lists.specs.Laws.{listed_in, next_in_lem}
-use Rattle.boundary_core.specs.Crossing.{phase_of, station_of, station_in, core_of, station_kept}
+use Rattle.boundary_core.specs.Crossing.{station_of, station_in, core_of, station_kept}
 use Rattle.boundary_core.specs.declared.Core.{Core}
 use Rattle.units.specs.declared.Milliseconds.{Milliseconds}
 use Rattle.boundary_many_ticks.specs.Calm.{counts_in}
@@ -23,12 +23,12 @@ left_station core members station same_core same_list = ap₂ station_of same_co
 -- a participant that holds and is alone: of the list the flags tell it
 abbrev pub alone_in : Core → List Bool → Bool
 alone_in core listed =
-    (is_participating (phase_of core.phase) && eqb core.view core.own.number)
+    (is_participating core.phase && eqb core.view core.own.number)
     && (eqb (next_in core.own.number listed core.own.number) core.own.number && not (get_or listed core.own.number false))
 
 abbrev pub jump_by : Core → List Bool → Milliseconds → ℕ → Jumped
 jump_by core listed time count =
-    jump_in (alone_in core listed) (phase_of core.phase) core.own.number time core.rounds (counts_in core) count
+    jump_in (alone_in core listed) core.phase core.own.number time core.rounds (counts_in core) count
 
 module _ (core : Core) (listed : List Bool) (number : core.own.number < 256) where
   alone_in_lem : (areas watch misses : List ℕ) → alone_in core listed ≡ is_alone (station_in core listed areas watch misses)

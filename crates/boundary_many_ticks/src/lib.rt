@@ -10,7 +10,7 @@ ghost use Rattle.ticking_quiet.specs.Many.{after_ticks, ticks_of};
 ghost use Rattle.boundary_many_ticks.specs.Calm.{counts_in, recounted, is_calm, calm_core};
 ghost use Rattle.boundary_many_ticks.specs.Jump.{alone_in};
 
-use boundary_core::{Core, Outcome, phase_number, phase_of};
+use boundary_core::{Core, Outcome};
 use boundary_numbers::ticked_answer;
 use boundary_watch::watch_time;
 use ticking_calm::Counts;
@@ -57,7 +57,7 @@ fn is_calm(core: Core, time: Milliseconds, count: u32) -> bool
     let elapsed = core.elapsed;
     let waited = core.waited;
     let calm = ticking_calm::calm_in(
-        phase_of(core.phase),
+        core.phase,
         core.own.number,
         time,
         core.rounds,
@@ -72,14 +72,15 @@ fn is_calm(core: Core, time: Milliseconds, count: u32) -> bool
 fn count_on(core: Core, count: u32) -> Core
     ensures { result ≡ calm_core count core }
 {
-    let phase = phase_of(core.phase);
     let number = core.own.number;
-    let counts = ticking_calm::counts_after(phase, number, core.rounds, count, counts_in(core));
-    let after = with_counts(core, counts);
-    Core {
-        phase: phase_number(phase),
-        ..after
-    }
+    let counts = ticking_calm::counts_after(
+        core.phase,
+        number,
+        core.rounds,
+        count,
+        counts_in(core),
+    );
+    with_counts(core, counts)
 }
 
 // A participant that holds and is alone: of the list only the flags matter.
@@ -87,7 +88,7 @@ fn is_alone(core: Core, listed: &[bool; 256]) -> bool
     ensures { result ≡ alone_in core listed.now }
 {
     let number = core.own.number;
-    if !(state_tests::is_participating(phase_of(core.phase)) & (core.view == number)) {
+    if !(state_tests::is_participating(core.phase) & (core.view == number)) {
         return false;
     }
     let next = boundary_next::next_after(number, listed, number);
@@ -101,7 +102,7 @@ fn jump(core: Core, listed: &[bool; 256], watch: &[u8; 256], count: u32) -> Left
 {
     let number = core.own.number;
     let rounds = core.rounds;
-    let phase = phase_of(core.phase);
+    let phase = core.phase;
     let alone = is_alone(core, listed);
     let time = watch_time(core, listed, watch);
     let counts = counts_in(core);
@@ -128,6 +129,7 @@ pub fn ticks(
 {
     let mut after = core;
     let mut left = count;
+    // No `for`: how many ticks a turn makes the turn itself tells.
     while !is_calm(after, watch_time(after, listed, watch), left) {
         let jumped = jump(after, listed, watch, left - 1);
         let before = jumped.core;
@@ -137,6 +139,6 @@ pub fn ticks(
     }
     Outcome {
         core: count_on(after, left),
-        answer: ticked_answer(ticking_answer::answer_in(phase_of(core.phase))),
+        answer: ticked_answer(ticking_answer::answer_in(core.phase)),
     }
 }

@@ -33,6 +33,7 @@ pub fn overlaps_other(
 {
     let own = number as usize;
     let mut other = boundary_flags::first_listed(listed, 0, 256);
+    // No `for`: each turn goes on to the next listed number.
     while other < 256 {
         let entry = boundary_lists::entry_at(listed, areas, watch, misses, other as u8);
         if overlaps_entry(entry, other != own, parts) {

@@ -6,7 +6,7 @@ ghost use Rattle.boundary_participant.specs.Quick.{is_accepted, restarted_core};
 
 use boundary_core::Core;
 use frame::Fields;
-use station::Gathering;
+use station::{Gathering, Phase};
 use units::Ticks;
 
 // Whether a participant accepts a cyclic frame that was read, by whether its source and its destination are listed.
@@ -15,7 +15,7 @@ pub fn is_accepted(core: Core, source: bool, destination: bool, frame: Fields) -
 {
     let code = frame.code;
     let number = core.own.number;
-    let cyclic = (core.phase == boundary_core::PARTICIPATING) & frame::is_cyclic(code);
+    let cyclic = core.is_in(Phase::Participating) & frame::is_cyclic(code);
     let other = (frame.source != number) & source;
     let known = !frame::is_token(code) | ((frame.destination == number) | destination);
     cyclic & (other & known)
@@ -30,7 +30,7 @@ pub fn restart(core: Core, view: u8, gathering: Gathering) -> Core
     let block = state_parts::place_kept(view, number, core.block);
     let panel = state_parts::taken_if(state_tests::takes(number, core.view, view), counter);
     Core {
-        phase: boundary_core::PARTICIPATING,
+        phase: Phase::Participating,
         elapsed: Ticks(0),
         view,
         block,

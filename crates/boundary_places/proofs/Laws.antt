@@ -1,8 +1,8 @@
 -- What is put into the numbers is what they hold then, and a core that they hold already changes none of them. Assumes nothing.
-use Rattle.laws.specs.Usual.{refl, sym, ap, ap₂, ◌∙◌, Bool, true, false, cond, List, ℕ, suc, arith, length, get_or, eqb, leb}
-use Rattle.std.specs.Prelude.{◌≡◌, ◌∷◌, ◌<◌, ◌≤◌, zero}
-use Rattle.std.proofs.Common.{eq-eqb, le-leb, eqb-true, leb-true}
-use Rattle.boundary_core.specs.Crossing.{phase_of, station_of, core_of}
+use Rattle.laws.specs.Usual.{refl, sym, ap, ap₂, ◌∙◌, Bool, true, false, cond, List, ℕ, arith, length, get_or, eqb}
+use Rattle.std.specs.Prelude.{◌≡◌, ◌∷◌, ◌<◌}
+use Rattle.std.proofs.Common.{eq-eqb, ne_eqb, eqb-true}
+use Rattle.boundary_core.specs.Crossing.{phase_of, phase_kept, phase_told, station_of, core_of}
 use Rattle.boundary_core.specs.declared.Core.{Core}
 use Rattle.station.specs.Rules.Answers.{phase_number}
 use Rattle.station.specs.Types.{Members}
@@ -13,9 +13,8 @@ use Rattle.low_parts.specs.Parts.{octet, with_octet}
 use Rattle.low_parts.proofs.Laws.{octet_back, octets_back, flag_back, octet_same, octets_same, flag_same, elements, all_elements}
 use Rattle.boundary_places.specs.Places.{phase_in, core_in, with_phase, kept}
 
--- each field is as wide as C has it, and the phase is one of the five
+-- each field is as wide as C has it
 pub record Fits (core : Core) : Type 0 where
-  pub phase : core.phase ≤ 4
   pub number : core.own.number < 256
   pub address_one : core.own.areas.one.address < 65536
   pub size_one : core.own.areas.one.size < 65536
@@ -29,29 +28,31 @@ pub record Fits (core : Core) : Type 0 where
   pub blocks : core.gathering.blocks < 256
   pub takings : core.panel.takings < 256
 
-phase_in_small : (number : ℕ) → phase_in number ≤ 4
-phase_in_small number = by (leb (octet number) 4) refl
-  where
-    by : (small : Bool) → leb (octet number) 4 ≡ small → cond small (octet number) 0 ≤ 4
-    by true e = leb-true (octet number) 4 e
-    by false e = omega arith
+small_phase : (phase : Phase) → phase_number phase < 256
+small_phase Off = omega arith
+small_phase Listening = omega arith
+small_phase Startup = omega arith
+small_phase Joining = omega arith
+small_phase Participating = omega arith
 
-phase_back : (number phase : ℕ) → phase ≤ 4 → phase_in (with_phase number phase) ≡ phase
-phase_back number phase small = by (eqb (phase_in number) phase) refl
+phase_back : (number : ℕ) (phase : Phase) → phase_in (with_phase number phase) ≡ phase
+phase_back number phase = by (eqb (phase_number (phase_in number)) (phase_number phase)) refl
   where
-    by : (same : Bool) → eqb (phase_in number) phase ≡ same → phase_in (cond same number (with_octet number phase)) ≡ phase
-    by true e = eqb-true (phase_in number) phase e
-    by false e =
-        ap (λ (n : ℕ). cond (leb n 4) n 0) (octet_back number phase (omega arith)) ∙ ap (λ (t : Bool). cond t phase 0) (le-leb phase 4 small)
+    by : (same : Bool) → eqb (phase_number (phase_in number)) (phase_number phase) ≡ same
+        → phase_in (cond same number (with_octet number (phase_number phase))) ≡ phase
+    by true e = phase_told (phase_in number) phase (eqb-true (phase_number (phase_in number)) (phase_number phase) e)
+    by false e = ap phase_of (octet_back number (phase_number phase) (small_phase phase)) ∙ phase_kept phase
 
 phase_same : (number : ℕ) → with_phase number (phase_in number) ≡ number
-phase_same number = ap (λ (t : Bool). cond t number (with_octet number (phase_in number))) (eq-eqb (phase_in number) (phase_in number) refl)
+phase_same number =
+    ap (λ (t : Bool). cond t number (with_octet number (phase_number (phase_in number))))
+    (eq-eqb (phase_number (phase_in number)) (phase_number (phase_in number)) refl)
 
 -- The next call goes on from the core that was put in.
 pub kept_core : (numbers : List ℕ) (core : Core) → Fits core → core_in (kept numbers core) ≡ core
 unfolding kept core_in
 kept_core numbers core fits = rw (
-  phase_back (get_or numbers 0 0) core.phase fits.phase,
+  phase_back (get_or numbers 0 0) core.phase,
   octet_back (get_or numbers 1 0) core.own.number fits.number,
   octets_back (get_or numbers 2 0) core.own.areas.one.address fits.address_one,
   octets_back (get_or numbers 3 0) core.own.areas.one.size fits.size_one,
@@ -92,52 +93,21 @@ kept_same numbers all =
     at : ℕ → ℕ
     at place = get_or numbers place 0
 
-small_phase : (phase : Phase) → phase_number phase ≤ 4
-small_phase Off = omega arith
-small_phase Listening = omega arith
-small_phase Startup = omega arith
-small_phase Joining = omega arith
-small_phase Participating = omega arith
-
-phase_number_back : (number : ℕ) → number ≤ 4 → phase_number (phase_of number) ≡ number
-phase_number_back zero small = refl
-phase_number_back (suc zero) small = refl
-phase_number_back (suc (suc zero)) small = refl
-phase_number_back (suc (suc (suc zero))) small = refl
-phase_number_back (suc (suc (suc (suc zero)))) small = refl
-phase_number_back (suc (suc (suc (suc (suc n))))) small = absurd (omega arith)
-
-abbrev with_number : ℕ → Core → Core
-with_number number core = record {
-  phase = number;
-  own = core.own;
-  elapsed = core.elapsed;
-  waited = core.waited;
-  rounds = core.rounds;
-  sent = core.sent;
-  view = core.view;
-  block = core.block;
-  gathering = core.gathering;
-  panel = core.panel;
-}
-
 -- A station made of what the numbers hold is held by them.
 pub core_in_back : (numbers : List ℕ) (members : Members) → core_of (station_of (core_in numbers) members) ≡ core_in numbers
-unfolding core_in
-core_in_back numbers members =
-    ap (λ (number : ℕ). with_number number (core_in numbers)) (phase_number_back (phase_in (get_or numbers 0 0)) (phase_in_small (get_or numbers 0 0)))
+core_in_back numbers members = refl
 
 -- Numbers into which a station's core was put, and numbers that were left alone.
 pub put_in : (before after : List ℕ) (core : Core) (station : Station) → core ≡ core_of station → after ≡ kept before core
-    → (core.phase ≤ 4 → core_in after ≡ core) → (core_in after ≡ core_of station) × (after ≡ kept before (core_of station))
+    → core_in after ≡ core → (core_in after ≡ core_of station) × (after ≡ kept before (core_of station))
 put_in before after core station is put holds =
-    (holds (rw (ap (λ (c : Core). c.phase) is) (small_phase station.phase)) ∙ is, put ∙ ap (kept before) is)
+    (holds ∙ is, put ∙ ap (kept before) is)
 
 -- A call on the core that was read out of the numbers, which leaves a core, an answer and a list, and whose core was put back.
 pub call_kept : {Said : Type 0} (station : Core → Station) (said : Core → Said) (before after : List ℕ) (read core : Core) (answer handed : Said)
     (members : Members) → read ≡ core_in before
     → (core ≡ core_of (station read)) × ((answer ≡ said read) × (members ≡ (station read).members))
-    → (after ≡ kept before core) × ((core.phase ≤ 4 → core_in after ≡ core) × (handed ≡ answer))
+    → (after ≡ kept before core) × ((core_in after ≡ core) × (handed ≡ answer))
     → (core_in after ≡ core_of (station (core_in before)))
     × ((after ≡ kept before (core_of (station (core_in before)))) × ((handed ≡ said (core_in before)) × (members ≡ (station (core_in before)).members)))
 call_kept station said before after read core answer handed members e done put =
@@ -147,3 +117,8 @@ call_kept station said before after read core answer handed members e done put =
 pub left_alone : (numbers : List ℕ) (station : Station) → length numbers ≡ 18 → core_in numbers ≡ core_of station
     → (core_in numbers ≡ core_of station) × (numbers ≡ kept numbers (core_of station))
 left_alone numbers station all is = (is, sym (kept_same numbers all) ∙ ap (kept numbers) is)
+
+-- "Any other number counts as off."
+pub others_off : (number : ℕ) → 4 < octet number → phase_in number ≡ Off
+others_off number above =
+    rw (ne_eqb (octet number) 1 (omega arith), ne_eqb (octet number) 2 (omega arith), ne_eqb (octet number) 3 (omega arith), ne_eqb (octet number) 4 (omega arith))

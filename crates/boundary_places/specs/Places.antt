@@ -1,16 +1,19 @@
 -- The core as C keeps it: eighteen numbers of 32 bits in the order of the header's `flnet_core`, changed in place. Of a number that stands for
 -- an octet, two octets or a flag only its low part counts, and what stands above that part is left as it is.
 use Rattle.std.specs.Prelude.{◌∷◌}
-use Rattle.laws.specs.Usual.{cond, List, [], ℕ, get_or, eqb, leb}
+use Rattle.laws.specs.Usual.{cond, List, [], ℕ, get_or, eqb}
+use Rattle.boundary_core.specs.Crossing.{phase_of}
 use Rattle.boundary_core.specs.declared.Core.{Core}
 use Rattle.low_parts.specs.Parts.{octet, octets, flag, with_octet, with_octets, with_flag}
 use Rattle.panel.specs.declared.Panel.{Panel}
+use Rattle.station.specs.Rules.Answers.{phase_number}
 use Rattle.station.specs.declared.Gathering.{Gathering}
+use Rattle.station.specs.declared.Phase.{Phase}
 use Rattle.station.specs.declared.Settings.{Settings}
 
 -- "Any other number counts as off": the phases are 0 to 4.
-abbrev pub phase_in : ℕ → ℕ
-phase_in number = cond (leb (octet number) 4) (octet number) 0
+abbrev pub phase_in : ℕ → Phase
+phase_in number = phase_of (octet number)
 
 -- what the numbers hold, in their order
 abbrev pub settings_in : List ℕ → Settings
@@ -48,8 +51,8 @@ core_in numbers = record {
 }
 
 -- A number that stands for the phase already stays.
-abbrev pub with_phase : ℕ → ℕ → ℕ
-with_phase number phase = cond (eqb (phase_in number) phase) number (with_octet number phase)
+abbrev pub with_phase : ℕ → Phase → ℕ
+with_phase number phase = cond (eqb (phase_number (phase_in number)) (phase_number phase)) number (with_octet number (phase_number phase))
 
 -- the numbers with another core in them
 unfoldable pub kept : List ℕ → Core → List ℕ

@@ -7,10 +7,10 @@ ghost use Rattle.boundary_core.specs.Crossing.{station_in};
 ghost use Rattle.ticking_quiet.specs.Quiet.{never, till, quiet_of};
 ghost use Rattle.boundary_quiet.specs.Numbers.{quiet_numbers};
 
-use boundary_core::{Core, phase_of};
+use boundary_core::Core;
 use station::Phase;
 
-// Whether news ever comes with no call between, and the ticks that come before the one that brings it.
+// Whether news ever comes with no call between, and the ticks that come before the one that brings it. A flag and no Option: C reads both.
 #[repr(C)]
 #[derive(Clone, Copy)]
 pub struct Quiet {
@@ -35,7 +35,7 @@ fn unless(stays: bool, ticks: u32) -> Quiet
 pub fn quiet_ticks(core: Core, listed: &[bool; 256], watch: &[u8; 256]) -> Quiet
     ensures { (areas misses : List ℕ) → result ≡ quiet_numbers (quiet_of (station_in core listed.now areas watch.now misses)) }
 {
-    let phase = phase_of(core.phase);
+    let phase = core.phase;
     let elapsed = core.elapsed;
     let waited = core.waited;
     let number = core.own.number;

@@ -6,22 +6,19 @@ ghost use Rattle.laws.specs.Usual.{length};
 ghost use Rattle.boundary_places.specs.Places.{phase_in, settings_in, gathering_in, panel_in, core_in};
 
 use area::{Areas, Part};
-use boundary_core::Core;
+use boundary_core::{Core, phase_of};
 use boundary_places::NUMBERS;
 use low_parts::{flag_of, octet_of, octets_of};
 use panel::Panel;
-use station::{Gathering, Settings};
+use station::{Gathering, Phase, Settings};
 use units::{Milliseconds, Ticks};
 
-pub fn phase_in(number: u32) -> u8
+// A number that is no phase's counts as off.
+pub fn phase_in(number: u32) -> Phase
     ensures { result ≡ phase_in number }
 {
     let octet = octet_of(number);
-    if octet <= boundary_core::PARTICIPATING {
-        octet
-    } else {
-        boundary_core::OFF
-    }
+    phase_of(octet)
 }
 
 // The numbers are read as a slice, since a proof is told the length of a slice, and not of an array behind a reference.

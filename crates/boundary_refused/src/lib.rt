@@ -1,14 +1,14 @@
-// Frames that are refused, on the core alone, and a core that nothing alters.
+// Frames that are refused, on the core alone.
 #![tactic(auto)]
 
 ghost use Rattle.std.specs.Prelude.{◌≡◌};
-ghost use Rattle.boundary_refused.specs.Kept.{kept_core};
 ghost use Rattle.boundary_refused.specs.Unheard.{heard_refusal};
 ghost use Rattle.boundary_refused.specs.Taken.{is_taken_by};
 ghost use Rattle.boundary_refused.specs.Strange.{is_strange};
 
-use boundary_core::{Core, phase_number, phase_of};
+use boundary_core::Core;
 use frame::{Fields, Refusal};
+use station::Phase;
 
 // 11 before those of the frame.
 pub fn heard_refusal(lent: bool, refusal: Refusal) -> Refusal
@@ -21,7 +21,7 @@ pub fn heard_refusal(lent: bool, refusal: Refusal) -> Refusal
 pub fn is_taken(core: Core, frame: Fields) -> bool
     ensures { result ≡ is_taken_by core frame }
 {
-    !state_tests::is_off(phase_of(core.phase)) & (frame.source == core.own.number)
+    !state_tests::is_off(core.phase) & (frame.source == core.own.number)
 }
 
 // Whether a participant refuses a cyclic frame that was read by number 9, by whether its source and its destination are listed.
@@ -30,15 +30,7 @@ pub fn is_strange(core: Core, source: bool, destination: bool, frame: Fields) ->
 {
     let code = frame.code;
     let number = core.own.number;
-    let cyclic = (core.phase == boundary_core::PARTICIPATING) & frame::is_cyclic(code);
+    let cyclic = core.is_in(Phase::Participating) & frame::is_cyclic(code);
     let known = source & (!frame::is_token(code) | ((frame.destination == number) | destination));
     cyclic & ((frame.source != number) & !known)
-}
-
-// Nothing altered.
-pub fn kept(core: Core) -> Core
-    ensures { result ≡ kept_core core }
-{
-    let phase = phase_number(phase_of(core.phase));
-    Core { phase, ..core }
 }

@@ -1,22 +1,21 @@
 -- Our request sent in ring startup or in joining: the core after it by the core before; the list stays. Assumes nothing.
-use Rattle.std.specs.Prelude.{◌≡◌, ◌||◌}
+use Rattle.std.specs.Prelude.{Ok, ◌≡◌, ◌||◌}
 use Rattle.laws.specs.Usual.{refl, sym, ap, ◌∙◌, Bool, true, false, cond, false≢true, List, [], ℕ, drop, eqb}
-use Rattle.std.proofs.Common.{eqb-true}
 use Rattle.asking_bare.specs.Bare.{no_data}
 use Rattle.block.specs.Blocks.{start_of}
-use Rattle.boundary_core.specs.Crossing.{phase_of, station_of, core_of, is_in}
+use Rattle.boundary_core.specs.Crossing.{station_of, core_of, is_in, in_phase}
 use Rattle.boundary_core.specs.declared.Core.{Core}
 use Rattle.boundary_due.specs.Due.{due_core}
 use Rattle.frame_round_trip.specs.Sent.{request_fields}
 use Rattle.frame_writing.specs.Writing.{whole_length, output_of}
 use Rattle.members.specs.Members.{no_members}
-use Rattle.station.specs.Rules.Asking.{Asking, due_in, next_block, sent_in, lent_right, ask_of}
+use Rattle.station.specs.Rules.Asking.{Asking, due_in, next_block, lent_right, ask_of}
 use Rattle.station.specs.Rules.State.{begun, request_sent}
 use Rattle.station.specs.Types.{Fields, Members}
-use Rattle.station.specs.declared.Asked.TheVariants.{Octets}
 use Rattle.station.specs.declared.Phase.TheVariants.{Startup, Joining}
 use Rattle.station.specs.declared.Settings.{Settings}
 use Rattle.station.specs.declared.Station.{Station}
+use Rattle.station.specs.Rules.Answers.{phase_number}
 
 -- the phases in which our request can be due
 abbrev pub is_requesting : Core → Bool
@@ -52,7 +51,7 @@ module _ (core : Core) (members : Members) where
 
 -- our request, sent by a station
 abbrev pub sent : Station → Settings → List ℕ → List ℕ → Asking
-sent after own turn output = record { station = after; answer = Octets (whole_length (request_of own)); turn = turn; output = output }
+sent after own turn output = record { station = after; answer = Ok (whole_length (request_of own)); turn = turn; output = output }
 
 module _ (station : Station) (memory turn output : List ℕ) (lent : lent_right memory turn output ≡ true) where
   abbrev block : List ℕ
@@ -77,17 +76,17 @@ module _ (station : Station) (memory turn output : List ℕ) (lent : lent_right 
 module _ (core : Core) (members : Members) (memory turn output : List ℕ) (lent : lent_right memory turn output ≡ true) (due : due_core core ≡ true) where
   pub request_asked : is_requesting core ≡ true
       → ask_of (station_of core members) memory turn output ≡ sent (after_request core members) core.own turn (output_of (request_of core.own) [] output)
-  request_asked e = by (eqb core.phase 2) refl (eqb core.phase 3) refl e
+  request_asked e = by (eqb (phase_number core.phase) 2) refl (eqb (phase_number core.phase) 3) refl e
     where
-      by : (startup : Bool) → eqb core.phase 2 ≡ startup → (joining : Bool) → eqb core.phase 3 ≡ joining → (startup || joining) ≡ true
+      by : (startup : Bool) → eqb (phase_number core.phase) 2 ≡ startup → (joining : Bool) → eqb (phase_number core.phase) 3 ≡ joining → (startup || joining) ≡ true
           → ask_of (station_of core members) memory turn output ≡ sent (after_request core members) core.own turn (output_of (request_of core.own) [] output)
       by true s joining j o =
-          let two : core.phase ≡ 2 = eqb-true core.phase 2 s in
-          let three : eqb core.phase 3 ≡ false = rw two in
-          startup_asked (station_of core members) memory turn output lent (ap phase_of two) (rw two at due)
+          let two : core.phase ≡ Startup = in_phase Startup core s in
+          let three : eqb (phase_number core.phase) 3 ≡ false = rw two in
+          startup_asked (station_of core members) memory turn output lent two (rw two at due)
           ∙ ap (λ (t : Bool). sent (cond t (begun core.own members core.view) (request_sent (station_of core members))) core.own turn (output_of (request_of core.own) [] output)) (sym three)
       by false s true j o =
-          let three : core.phase ≡ 3 = eqb-true core.phase 3 j in
-          joining_asked (station_of core members) memory turn output lent (ap phase_of three) (rw three at due)
+          let three : core.phase ≡ Joining = in_phase Joining core j in
+          joining_asked (station_of core members) memory turn output lent three (rw three at due)
           ∙ ap (λ (t : Bool). sent (cond t (begun core.own members core.view) (request_sent (station_of core members))) core.own turn (output_of (request_of core.own) [] output)) (sym j)
       by false s false j o = absurd (false≢true o)

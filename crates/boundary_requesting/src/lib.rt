@@ -9,21 +9,21 @@ ghost use Rattle.frame_writing.specs.Writing.{whole_length, output_of};
 
 use boundary_answers::frame_answer;
 use boundary_core::{Core, Outcome};
+use station::Phase;
 
 pub fn is_requesting(core: Core) -> bool
     ensures { result ≡ is_requesting core }
 {
-    (core.phase == boundary_core::STARTUP) | (core.phase == boundary_core::JOINING)
+    core.is_in(Phase::Startup) | core.is_in(Phase::Joining)
 }
 
 fn after_request(core: Core) -> Core
     ensures { result ≡ requesting_core core }
 {
     let own = core.own;
-    if core.phase == boundary_core::JOINING {
+    if core.is_in(Phase::Joining) {
         return boundary_beginning::participate(own, core.view);
     }
-    let core = boundary_refused::kept(core);
     Core { sent: true, ..core }
 }
 

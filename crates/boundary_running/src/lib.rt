@@ -5,22 +5,18 @@ ghost use Rattle.std.specs.Prelude.{◌≡◌};
 ghost use Rattle.boundary_core.specs.Crossing.{core_of, station_in};
 ghost use Rattle.boundary_answers.specs.Numbers.{switched_answer, refused_answer};
 ghost use Rattle.boundary_lists.specs.Lists.{members_in};
-ghost use Rattle.boundary_refused.specs.Kept.{kept_core};
 ghost use Rattle.station.specs.Rules.Starting.{start_of, stop_of};
 
-use boundary_core::{Core, Outcome, phase_of};
+use boundary_core::{Core, Outcome};
 use frame::Refusal;
-use station::{Phase, Settings, Switched};
+use station::{Phase, Settings};
 
 fn refuse(core: Core, refusal: Refusal) -> Outcome
-    ensures core_value { result.core ≡ kept_core core }
+    ensures core_value { result.core ≡ core }
     ensures answer_value { result.answer ≡ refused_answer refusal }
 {
     let answer = boundary_answers::refused(refusal);
-    Outcome {
-        core: boundary_refused::kept(core),
-        answer,
-    }
+    Outcome { core, answer }
 }
 
 pub fn start(
@@ -35,12 +31,12 @@ pub fn start(
     ensures answer_value { result.answer ≡ switched_answer (start_of (station_in core listed.old areas.old watch.old misses.old) own).answer }
     ensures misses_after { members_in listed.new areas.new watch.new misses.new ≡ (start_of (station_in core listed.old areas.old watch.old misses.old) own).station.members }
 {
-    match starting::start_answer(phase_of(core.phase), own) {
-        Switched::Done => Outcome {
+    match starting::start_answer(core.phase, own) {
+        Ok(()) => Outcome {
             core: boundary_beginning::begin(Phase::Listening, own, listed, areas, watch, misses),
             answer: boundary_answers::done(),
         },
-        Switched::Refused(refusal) => refuse(core, refusal),
+        Err(refusal) => refuse(core, refusal),
     }
 }
 
@@ -55,7 +51,7 @@ pub fn stop(
     ensures answer_value { result.answer ≡ switched_answer (stop_of (station_in core listed.old areas.old watch.old misses.old)).answer }
     ensures misses_after { members_in listed.new areas.new watch.new misses.new ≡ (stop_of (station_in core listed.old areas.old watch.old misses.old)).station.members }
 {
-    if state_tests::is_off(phase_of(core.phase)) {
+    if state_tests::is_off(core.phase) {
         return refuse(core, Refusal::NotDue);
     }
     let number = core.own.number;

@@ -29,8 +29,5 @@ pub fn show(core: Core) -> Shown
     ensures { result ≡ figure_numbers (figure_in core) }
 {
     let panel = core.panel;
-    boundary_figure::figure_shown(phases_participating::figure_in(
-        boundary_core::phase_of(core.phase),
-        panel,
-    ))
+    boundary_figure::figure_shown(phases_participating::figure_in(core.phase, panel))
 }

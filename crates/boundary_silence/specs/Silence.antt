@@ -1,6 +1,6 @@
 -- A tick that ends a participant's watch, told by the core and by the entry of the station in view. Assumes nothing.
 use Rattle.std.specs.Prelude.{◌≡◌, ◌&&◌, ◌+◌}
-use Rattle.laws.specs.Usual.{refl, sym, ap, ◌∙◌, Bool, true, false, cond, not, ℕ, leb}
+use Rattle.laws.specs.Usual.{refl, sym, ap, ◌∙◌, Bool, true, false, cond, ℕ, leb}
 use Rattle.std.proofs.lemmas.Bool.{not-false}
 use Rattle.boundary_core.specs.Crossing.{station_of, core_of}
 use Rattle.boundary_core.specs.declared.Core.{Core}
@@ -13,6 +13,7 @@ use Rattle.station.specs.Rules.Ticking.{tick_of, watch_time, watch_ends, watch_e
 use Rattle.station.specs.Types.{Members, Entry}
 use Rattle.station.specs.declared.Gathering.{Gathering}
 use Rattle.station.specs.declared.Ticked.TheVariants.{Done}
+use Rattle.station.specs.declared.Phase.TheVariants.{Participating}
 
 -- "A third miss in a row strikes it from the list."
 abbrev pub missed_entry : Entry → Entry
@@ -56,7 +57,7 @@ abbrev pub silenced_core : Core → ℕ → Entry → Core
 silenced_core core next entry = restarted_core (ticked_core core) next (left_by entry core.view core.gathering)
 
 module _ (core : Core) (members : Members) where
-  pub silence_tick : core.phase ≡ 4 → is_quiet core (watch_time (station_of core members)) ≡ false
+  pub silence_tick : core.phase ≡ Participating → is_quiet core (watch_time (station_of core members)) ≡ false
       → tick_of (station_of core members) ≡ record { station = watch_ended (station_of core members); answer = Done }
   silence_tick four loud =
       let ends : watch_ends (station_of core members) ≡ true = not-false (watch_ends (station_of core members)) (rw four at loud) in

@@ -10,6 +10,7 @@ ghost use Rattle.boundary_watch.specs.Watch.{is_quiet};
 ghost use Rattle.boundary_silence.specs.Silence.{missed_entry, left_by, silenced_core};
 ghost use Rattle.members.specs.Members.{missed};
 ghost use Rattle.station.specs.Rules.Ticking.{tick_of, watch_time};
+ghost use Rattle.station.specs.declared.Phase.TheVariants.{Participating};
 
 use boundary_core::{Core, Outcome};
 use members::Entry;
@@ -78,7 +79,7 @@ pub fn tick(
     watch: &mut [u8; 256],
     misses: &mut [u8; 256],
 ) -> Outcome
-    requires phase_value { core.phase ≡ 4 }
+    requires phase_value { core.phase ≡ Participating }
     requires misses_value { is_quiet core (watch_time (station_in core listed.old areas.old watch.old misses.old)) ≡ false }
     ensures core_value { result.core ≡ core_of (tick_of (station_in core listed.old areas.old watch.old misses.old)).station }
     ensures answer_value { result.answer ≡ ticked_answer (tick_of (station_in core listed.old areas.old watch.old misses.old)).answer }

@@ -10,6 +10,7 @@ ghost use Rattle.boundary_waiting.specs.Waiting.{is_waiting};
 ghost use Rattle.members.specs.Members.{numbers_of};
 ghost use Rattle.station.specs.Rules.Starting.{started_up};
 ghost use Rattle.station.specs.Rules.Ticking.{tick_of};
+ghost use Rattle.station.specs.declared.Phase.TheVariants.{Startup};
 
 use boundary_core::{Core, Outcome};
 use station::{Phase, Settings};
@@ -41,7 +42,7 @@ pub fn tick_startup(
     watch: &mut [u8; 256],
     misses: &mut [u8; 256],
 ) -> Outcome
-    requires phase_value { core.phase ≡ 2 }
+    requires phase_value { core.phase ≡ Startup }
     requires core_value { is_waiting core ≡ false }
     ensures core_value_2 { result.core ≡ core_of (tick_of (station_in core listed.old areas.old watch.old misses.old)).station }
     ensures answer_value { result.answer ≡ ticked_answer (tick_of (station_in core listed.old areas.old watch.old misses.old)).answer }

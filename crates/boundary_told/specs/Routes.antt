@@ -1,61 +1,40 @@
 -- What is told is that of the frame. Assumes nothing.
-use Rattle.std.specs.Prelude.{◌≡◌, ◌<◌, ◌≤◌}
-use Rattle.laws.specs.Usual.{refl, sym, ap, ap₂, ◌∙◌, Bool, true, false, cond, List, ℕ, arith, length, take, get_or, eqb, leb}
-use Rattle.std.proofs.Common.{eqb-true, leb-true, length-take, get_or-take}
+use Rattle.std.specs.Prelude.{Ok, Err, ◌≡◌, ◌<◌, ◌≤◌}
+use Rattle.laws.specs.Usual.{refl, sym, ap, ap₂, ◌∙◌, List, ℕ, arith, length, take, get_or, leb}
+use Rattle.std.proofs.Common.{leb-true, length-take, get_or-take}
 use Rattle.laws.specs.Tests.{first}
-use Rattle.frame.specs.Codes.{code_number, code_of}
 use Rattle.frame.specs.Octets.{octet_at, word_at}
 use Rattle.frame.specs.Positions.{SNA, DNA, TCD}
-use Rattle.frame.specs.declared.Code.{Code}
-use Rattle.frame.specs.declared.Code.TheVariants.{Token, Cyclic, Request, Trigger}
-use Rattle.frame.specs.declared.Coded.TheVariants.{Known, Unknown}
 use Rattle.frame.specs.declared.Fields.{Fields}
 use Rattle.frame_reading.specs.Reading.{and_then, read_header_of, read_body_of, read_of, fields_of}
-use Rattle.frame_reading.specs.declared.Read.TheVariants.{Frame, Refused}
 use Rattle.frame.specs.declared.Refusal.{Refusal}
-use Rattle.frame_reading.specs.declared.Read.{Read}
+use Rattle.frame_reading.specs.Reading.{Read}
 use Rattle.frame_round_trip.proofs.Accepted.{accepted as passed}
+use Rattle.frame_round_trip.proofs.WriteBack.{code_number_lem}
 use Rattle.station.specs.Rules.Asking.{Asking}
 use Rattle.station.specs.declared.Heard.{Heard}
-use Rattle.station.specs.declared.Asked.{Asked}
+use Rattle.station.specs.Types.{Asked}
 use Rattle.boundary_answers.specs.Numbers.{no_frame, heard_answer, asked_answer}
 use Rattle.boundary_answers.specs.declared.Answer.{Answer}
 use Rattle.boundary_told.specs.Told.{route_of, route_read, route_in, asked_told, written_told, with_frame, heard_told}
 use Rattle.station.specs.declared.Heard.TheVariants as answers
-use Rattle.station.specs.declared.Asked.TheVariants as asked
 
 -- an asking's answer, by its numbers
 told_by : (output : List ℕ) (answer : Asked) → written_told output (asked_answer answer) ≡ asked_told output answer
-told_by output (asked.Octets count) = refl
-told_by output (asked.Refused refusal) = refl
+told_by output (Ok count) = refl
+told_by output (Err refusal) = refl
 
 pub told_asked : (asking : Asking) {output : List ℕ} {answer : Answer} → output ≡ asking.output → answer ≡ asked_answer asking.answer
     → written_told output answer ≡ asked_told asking.output asking.answer
 told_asked asking written e = ap₂ written_told written e ∙ told_by asking.output asking.answer
 
--- the number of a code that is one of the four
-code_told : (number : ℕ) (code : Code) → code_of number ≡ Known code → code_number code ≡ number
-code_told number code e = by (eqb number 65000) refl (eqb number 65001) refl (eqb number 65002) refl (eqb number 65012) refl e
-  where
-    same : {found : Code} → Known found ≡ Known code → found ≡ code
-    same h = cc
-
-    by : (t : Bool) → eqb number 65000 ≡ t → (c : Bool) → eqb number 65001 ≡ c → (r : Bool) → eqb number 65002 ≡ r → (g : Bool) → eqb number 65012 ≡ g
-        → cond t (Known Token) (cond c (Known Cyclic) (cond r (Known Request) (cond g (Known Trigger) Unknown))) ≡ Known code
-        → code_number code ≡ number
-    by true is c _ r _ g _ h = sym (ap code_number (same h)) ∙ sym (eqb-true number 65000 is)
-    by false _ true is r _ g _ h = sym (ap code_number (same h)) ∙ sym (eqb-true number 65001 is)
-    by false _ false _ true is g _ h = sym (ap code_number (same h)) ∙ sym (eqb-true number 65002 is)
-    by false _ false _ false _ true is h = sym (ap code_number (same h)) ∙ sym (eqb-true number 65012 is)
-    by false _ false _ false _ false _ h = let z : ◌≡◌ {A = ℕ} 0 1 = cc in absurd (omega arith)
-
 -- an answer with the route of what was read: of a frame that was read,
-pub told_read : (octets : List ℕ) (frame : Fields) (answer : Heard) → read_of octets ≡ Frame frame
+pub told_read : (octets : List ℕ) (frame : Fields) (answer : Heard) → read_of octets ≡ Ok frame
     → with_frame (heard_answer answer) (route_of frame) ≡ heard_told octets answer
 told_read octets frame answer read = ap (λ (r : Read). with_frame (heard_answer answer) (route_read r)) (sym read)
 
 -- and where none was read, of no frame
-pub told_unread : (octets : List ℕ) (refusal : Refusal) (answer : Heard) {told : Answer} → read_of octets ≡ Refused refusal
+pub told_unread : (octets : List ℕ) (refusal : Refusal) (answer : Heard) {told : Answer} → read_of octets ≡ Err refusal
     → told ≡ heard_answer answer → told ≡ heard_told octets answer
 told_unread octets refusal answer unread e = e ∙ bare answer ∙ ap (λ (r : Read). with_frame (heard_answer answer) (route_read r)) (sym unread)
   where
@@ -66,16 +45,16 @@ told_unread octets refusal answer unread e = e ∙ bare answer ∙ ap (λ (r : R
     bare (answers.Refused r) = refl
 
 -- octets that read as a frame hold its route
-pub read_told : (octets : List ℕ) (frame : Fields) → read_of octets ≡ Frame frame → route_in octets ≡ route_of frame
+pub read_told : (octets : List ℕ) (frame : Fields) → read_of octets ≡ Ok frame → route_in octets ≡ route_of frame
 unfolding fields_of
 read_told octets frame e =
     let a = passed octets frame e in
     let source : octet_at octets SNA ≡ frame.source = ap (λ (f : Fields). f.source) a.holds in
     let destination : octet_at octets DNA ≡ frame.destination = ap (λ (f : Fields). f.destination) a.holds in
-    rw (source, destination, ← code_told (word_at octets TCD) frame.code a.is_coded)
+    rw (source, destination, ← code_number_lem (word_at octets TCD) frame.code a.is_coded)
 
 -- and so does an output with such octets at its front
-pub written_told_lem : (count : ℕ) (output : List ℕ) (frame : Fields) → read_of (take count output) ≡ Frame frame → route_in output ≡ route_of frame
+pub written_told_lem : (count : ℕ) (output : List ℕ) (frame : Fields) → read_of (take count output) ≡ Ok frame → route_in output ≡ route_of frame
 written_told_lem count output frame e =
     let front = take count output in
     let a = passed front frame e in
@@ -89,15 +68,15 @@ in_parts : (octets : List ℕ) → read_of octets ≡ and_then (read_header_of o
 unfolding read_of
 in_parts octets = refl
 
-pub header_unread : (octets : List ℕ) (refusal : Refusal) → read_header_of octets ≡ Refused refusal → read_of octets ≡ Refused refusal
+pub header_unread : (octets : List ℕ) (refusal : Refusal) → read_header_of octets ≡ Err refusal → read_of octets ≡ Err refusal
 header_unread octets refusal h = in_parts octets ∙ rw h
 
-pub body_unread : (octets : List ℕ) (header : Fields) (refusal : Refusal) → read_header_of octets ≡ Frame header
-    → read_body_of (length octets) header ≡ Refused refusal → read_of octets ≡ Refused refusal
+pub body_unread : (octets : List ℕ) (header : Fields) (refusal : Refusal) → read_header_of octets ≡ Ok header
+    → read_body_of (length octets) header ≡ Err refusal → read_of octets ≡ Err refusal
 body_unread octets header refusal h b = in_parts octets ∙ rw h b
 
 -- Of octets whose header was read.
-pub told_header : (octets : List ℕ) (header : Fields) (answer : Heard) {told : Answer} → read_header_of octets ≡ Frame header → told ≡ heard_answer answer
+pub told_header : (octets : List ℕ) (header : Fields) (answer : Heard) {told : Answer} → read_header_of octets ≡ Ok header → told ≡ heard_answer answer
     → with_frame told (route_read (read_body_of (length octets) header)) ≡ heard_told octets answer
 told_header octets header answer h e =
     ap₂ (λ (t : Answer) (r : Read). with_frame t (route_read r)) e (sym (in_parts octets ∙ ap (λ (r : Read). and_then r (read_body_of (length octets))) h))

@@ -1,19 +1,18 @@
 -- What an answer tells of the frame that was heard or written: its code, its source and its destination, so that a host need not look into
 -- the octets. A frame's route is its code, source and destination.
+use Rattle.std.specs.Prelude.{Ok, Err}
 use Rattle.laws.specs.Usual.{cond, List, ℕ, eqb}
 use Rattle.frame.specs.Codes.{code_number}
 use Rattle.frame.specs.Octets.{octet_at, word_at}
 use Rattle.frame.specs.Positions.{SNA, DNA, TCD}
 use Rattle.frame.specs.declared.Fields.{Fields}
 use Rattle.frame_reading.specs.Reading.{read_of}
-use Rattle.frame_reading.specs.declared.Read.{Read}
-use Rattle.frame_reading.specs.declared.Read.TheVariants.{Frame, Refused}
-use Rattle.station.specs.declared.Asked.{Asked}
+use Rattle.frame_reading.specs.Reading.{Read}
+use Rattle.station.specs.Types.{Asked}
 use Rattle.station.specs.declared.Heard.{Heard}
 use Rattle.boundary_answers.specs.Numbers.{no_frame, heard_answer, frame_answer, refused_answer}
 use Rattle.boundary_answers.specs.declared.Answer.{Answer}
 use Rattle.boundary_answers.specs.declared.Route.{Route}
-use Rattle.station.specs.declared.Asked.TheVariants as asked
 
 -- of a frame's fields
 abbrev pub route_of : Fields → Route
@@ -21,8 +20,8 @@ route_of fields = record { code = code_number fields.code; source = fields.sourc
 
 -- of what was read: of a frame, or of none
 abbrev pub route_read : Read → Route
-route_read (Frame fields) = route_of fields
-route_read (Refused refusal) = no_frame
+route_read (Ok fields) = route_of fields
+route_read (Err refusal) = no_frame
 
 -- as it stands in octets
 abbrev pub route_in : List ℕ → Route
@@ -45,8 +44,8 @@ heard_told octets answer = with_frame (heard_answer answer) (route_read (read_of
 
 -- an asking tells the route as it stands in the frame that was written
 abbrev pub asked_told : List ℕ → Asked → Answer
-asked_told output (asked.Octets count) = with_frame (frame_answer count) (route_in output)
-asked_told output (asked.Refused refusal) = refused_answer refusal
+asked_told output (Ok count) = with_frame (frame_answer count) (route_in output)
+asked_told output (Err refusal) = refused_answer refusal
 
 -- the same by the numbers of an answer alone: 3 is the word of one that is a frame
 abbrev pub written_told : List ℕ → Answer → Answer

@@ -7,14 +7,12 @@ ghost use Rattle.boundary_told.specs.Told.{route_of, route_read, with_frame};
 
 use boundary_answers::{Answer, NO_FRAME, Route};
 use frame::Fields;
-use frame_reading::Read;
 
 fn route_of(frame: Fields) -> Route
     ensures { result ≡ route_of frame }
 {
-    let code = frame.code;
     Route {
-        code: frame::number_of_code(code),
+        code: u16::from(frame.code),
         source: frame.source,
         destination: frame.destination,
     }
@@ -33,8 +31,8 @@ fn route_read(length: usize, header: Fields) -> Route
     ensures { result ≡ route_read (read_body_of length header) }
 {
     match frame_body::read_body(length, header) {
-        Read::Frame(frame) => route_of(frame),
-        Read::Refused(_) => NO_FRAME,
+        Ok(frame) => route_of(frame),
+        Err(_) => NO_FRAME,
     }
 }
 

@@ -1,19 +1,21 @@
--- The ticks of a station that does not participate yet, on its core: those that only count, which are all but the ones that end a wait. A core's
--- phase is a number, by which the proofs go: 1 listening, 2 ring startup, 3 joining.
+-- The ticks of a station that does not participate yet, on its core: those that only count, which are all but the ones that end a wait.
 use Rattle.std.specs.Prelude.{◌&&◌, ◌||◌}
-use Rattle.laws.specs.Usual.{Bool, cond, not, ℕ, eqb, leb}
-use Rattle.station.specs.Rules.Answers.{phase_number}
+use Rattle.laws.specs.Usual.{Bool, cond, not, ℕ, leb}
 use Rattle.station.specs.Rules.Ticking.{later, wait_ends, waited_then}
 use Rattle.station.specs.Rules.Waits.{detection_wait, acceptance_time, listening_time}
 use Rattle.units.specs.declared.Ticks.{Ticks}
-use Rattle.station.specs.declared.Phase.TheVariants.{Listening, Startup, Joining}
+use Rattle.station.specs.declared.Phase.{Phase}
+use Rattle.station.specs.declared.Phase.TheVariants.{Off, Listening, Startup, Joining, Participating}
 use Rattle.boundary_core.specs.Crossing.{is_in}
 use Rattle.boundary_core.specs.declared.Core.{Core}
 
 -- what the phase's ticks are counted up to
-abbrev pub limit_of : ℕ → ℕ → ℕ
-limit_of phase number =
-    cond (eqb phase (phase_number Listening)) (listening_time number) (cond (eqb phase (phase_number Startup)) acceptance_time detection_wait)
+abbrev pub limit_of : Phase → ℕ → ℕ
+limit_of Off number = detection_wait
+limit_of Listening number = listening_time number
+limit_of Startup number = acceptance_time
+limit_of Joining number = detection_wait
+limit_of Participating number = detection_wait
 
 -- the wait for our number in joining, after the next tick
 abbrev pub waited_joining : Core → Ticks

@@ -8,19 +8,18 @@ ghost use Rattle.station.specs.declared.Phase.TheVariants.{Joining};
 ghost use Rattle.boundary_waiting.specs.Waiting.{limit_of, waited_joining, startup_ends, joining_ends, is_waiting, waited_core};
 
 use boundary_core::Core;
+use station::Phase;
 use units::Ticks;
 
 // What the phase's ticks are counted up to.
-fn limit(phase: u8, number: u8) -> Ticks
+fn limit(phase: Phase, number: u8) -> Ticks
     ensures { result.0 ≡ limit_of phase number }
 {
-    if phase == boundary_core::LISTENING {
-        return waits_lengths::listening_time(number);
+    match phase {
+        Phase::Listening => waits_lengths::listening_time(number),
+        Phase::Startup => waits_lengths::acceptance_time(),
+        Phase::Off | Phase::Joining | Phase::Participating => waits_lengths::detection_wait(),
     }
-    if phase == boundary_core::STARTUP {
-        return waits_lengths::acceptance_time();
-    }
-    waits_lengths::detection_wait()
 }
 
 fn startup_ends(core: Core) -> bool
@@ -53,9 +52,9 @@ fn joining_ends(core: Core) -> bool
 pub fn is_waiting(core: Core) -> bool
     ensures { result ≡ is_waiting core }
 {
-    (core.phase == boundary_core::LISTENING)
-        | (((core.phase == boundary_core::STARTUP) & !startup_ends(core))
-            | ((core.phase == boundary_core::JOINING) & !joining_ends(core)))
+    core.is_in(Phase::Listening)
+        | ((core.is_in(Phase::Startup) & !startup_ends(core))
+            | (core.is_in(Phase::Joining) & !joining_ends(core)))
 }
 
 fn waited_by(core: Core) -> Ticks
@@ -63,7 +62,7 @@ fn waited_by(core: Core) -> Ticks
 {
     let number = core.own.number;
     let waited = core.waited;
-    if core.phase == boundary_core::JOINING {
+    if core.is_in(Phase::Joining) {
         waits::waited_then(number, core.rounds, waited)
     } else {
         waited

@@ -8,6 +8,7 @@ ghost use Rattle.station.specs.Rules.Ticking.{watch_time};
 ghost use Rattle.boundary_watch.specs.Watch.{is_quiet, quiet_after};
 
 use boundary_core::Core;
+use station::Phase;
 use units::Milliseconds;
 
 // Of the list only the flag and the time of the station in view matter.
@@ -27,7 +28,7 @@ pub fn is_quiet(core: Core, time: Milliseconds) -> bool
     ensures { result ≡ is_quiet core time }
 {
     let elapsed = core.elapsed;
-    (core.phase == boundary_core::PARTICIPATING) & !waits_watch::watch_ends(time, elapsed)
+    core.is_in(Phase::Participating) & !waits_watch::watch_ends(time, elapsed)
 }
 
 // The core after such a tick.

@@ -11,16 +11,14 @@ use frame_reading::{DNA, SNA, TCD};
 fn octet_at(s: &[u8], at: usize) -> u8
     ensures { result ≡ octet_at s.now at }
 {
-    if at < s.len() { s[at] } else { 0 }
+    s.get(at).copied().unwrap_or(0)
 }
 
 fn route_in(s: &[u8]) -> Route
     ensures { result ≡ route_in s.now }
 {
-    let high = octet_at(s, TCD);
-    let low = octet_at(s, TCD + 1);
     Route {
-        code: high as u16 * 256 + low as u16,
+        code: u16::from_be_bytes([octet_at(s, TCD), octet_at(s, TCD + 1)]),
         source: octet_at(s, SNA),
         destination: octet_at(s, DNA),
     }

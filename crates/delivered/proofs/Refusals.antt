@@ -1,5 +1,5 @@
 -- What is proved of the definitions in specs/Refusals.antt.
-use Rattle.std.specs.Prelude.{◌≡◌, ◌<◌}
+use Rattle.std.specs.Prelude.{Ok, Err, ◌≡◌, ◌<◌}
 use Rattle.laws.specs.Usual.{refl, sym, ap, ◌∙◌, List, ℕ, arith}
 use Rattle.boundary_core.specs.Crossing.{core_of, station_of, station_kept}
 use Rattle.boundary_answers.specs.Numbers.{switched_answer, ticked_answer}
@@ -19,14 +19,12 @@ use Rattle.station.specs.RefusedLeft.{Spared, same, turned_off, Left}
 use Rattle.station.specs.Rules.Starting.{start_of, stop_of}
 use Rattle.station.specs.Rules.Ticking.{tick_of}
 use Rattle.station.specs.declared.Station.{Station}
-use Rattle.station.specs.declared.Switched.{Switched}
+use Rattle.station.specs.Types.{Switched}
 use Rattle.station.specs.declared.Ticked.{Ticked}
 use Rattle.station.specs.declared.Heard.{Heard}
-use Rattle.station.specs.declared.Asked.{Asked}
+use Rattle.station.specs.Types.{Asked}
 use Rattle.delivered.specs.Boxes.{Box, station_at, answer_of, Done}
-use Rattle.station.specs.declared.Asked.TheVariants as asked
 use Rattle.station.specs.declared.Heard.TheVariants as heard
-use Rattle.station.specs.declared.Switched.TheVariants as switched
 use Rattle.station.specs.declared.Ticked.TheVariants as ticked
 use Rattle.delivered.specs.Refusals.{Told, Kept, unchanged, stops}
 
@@ -42,8 +40,8 @@ other_word : {A : Type 0} {word : ℕ} → word ≡ 4 → word < 4 → A
 other_word e small = absurd (omega arith)
 
 switched_told : (answer : Switched) → (switched_answer answer).word ≡ 4 → Told (switched_verdict answer) (switched_answer answer)
-switched_told switched.Done e = other_word e (omega arith)
-switched_told (switched.Refused refusal) e = record { refusal = refusal; number = refl; refused = refl }
+switched_told (Ok tt) e = other_word e (omega arith)
+switched_told (Err refusal) e = record { refusal = refusal; number = refl; refused = refl }
 
 ticked_told : (answer : Ticked) → (ticked_answer answer).word ≡ 4 → Told unrefused (ticked_answer answer)
 ticked_told ticked.Off e = other_word e (omega arith)
@@ -56,8 +54,8 @@ heard_told_lem octets (heard.Cyclic token) e = other_word e (omega arith)
 heard_told_lem octets (heard.Refused refusal) e = record { refusal = refusal; number = refl; refused = refl }
 
 asked_told_lem : (output : List ℕ) (answer : Asked) → (asked_told output answer).word ≡ 4 → Told (asked_verdict answer) (asked_told output answer)
-asked_told_lem output (asked.Octets count) e = other_word e (omega arith)
-asked_told_lem output (asked.Refused refusal) e = record { refusal = refusal; number = refl; refused = refl }
+asked_told_lem output (Ok count) e = other_word e (omega arith)
+asked_told_lem output (Err refusal) e = record { refusal = refusal; number = refl; refused = refl }
 
 -- what is told of a hearing
 hear_told : (station : Station) (octets memory assembly : List ℕ) {answer : Heard} → (hear_of station octets memory assembly).answer ≡ answer

@@ -1,5 +1,5 @@
 -- What is proved of the definitions in specs/Rings.antt.
-use Rattle.std.specs.Prelude.{◌≡◌, ◌++◌}
+use Rattle.std.specs.Prelude.{Ok, Err, ◌≡◌, ◌++◌}
 use Rattle.laws.specs.Usual.{refl, sym, ap, ap₂, subst, ◌∙◌, List, ℕ, arith}
 use mathlib.Core.List.{head-eq_of_cons-eq, tail-eq_of_cons-eq}
 use Rattle.std.proofs.Math.Decide.{ℕ_discrete}
@@ -17,10 +17,9 @@ use Rattle.settling.specs.Steps.{after_all, EachFinds}
 use Rattle.station.specs.Rules.Asking.{ask_of}
 use Rattle.station.specs.Rules.Calls.{Call, tick, after}
 use Rattle.station.specs.declared.Station.{Station}
-use Rattle.station.specs.declared.Asked.{Asked}
+use Rattle.station.specs.Types.{Asked}
 use Rattle.delivered.specs.Boxes.{Box, station_at}
 use Rattle.delivered.proofs.Refusals.{left_is}
-use Rattle.station.specs.declared.Asked.TheVariants as answers
 use Rattle.delivered.specs.Rings.{Boxes, stations_in, Called, by, Handed, hears, spared, Sent, Leaves, Runs, ended, goes, Holding}
 
 called_is : {before left : Box} {call : Call} → Called before call left → station_at left ≡ after (station_at before) call
@@ -29,10 +28,10 @@ called_is (by answer buffers done) = left_is done
 -- what is handed on is what the rules hand on
 handed_is : {before left : Box} {lent : Lent} {output : List ℕ} (written : List ℕ) (asks : Asked) → Handed before left lent (asked_told written asks) output
     → station_at left ≡ handed (station_at before) lent asks output
-handed_is written (answers.Octets count) (hears word called) = called_is called
-handed_is written (answers.Octets count) (spared other e) = absurd (other refl)
-handed_is written (answers.Refused refusal) (hears word called) = absurd (omega arith)
-handed_is written (answers.Refused refusal) (spared other e) = ap station_at e
+handed_is written (Ok count) (hears word called) = called_is called
+handed_is written (Ok count) (spared other e) = absurd (other refl)
+handed_is written (Err refusal) (hears word called) = absurd (omega arith)
+handed_is written (Err refusal) (spared other e) = ap station_at e
 
 module _ (numbers : List ℕ) (boxes left : Boxes) (stations : Stations) (holding : Holding numbers boxes stations) where
   module _ (who : ℕ) (member : who ∈ numbers) (memory turn output : List ℕ) (lent : ℕ → Lent)

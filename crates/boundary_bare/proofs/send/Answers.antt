@@ -1,6 +1,6 @@
 -- `boundary_bare::send` meets its contract.
 use Rattle.std.specs.Prelude.{◌≡◌}
-use Rattle.laws.specs.Usual.{sym, ap, ◌∙◌, Bool, true, false, cond, [], rules}
+use Rattle.laws.specs.Usual.{sym, ap, ◌∙◌, Bool, true, false, cond, []}
 use Rattle.boundary_answers.specs.Numbers.{frame_answer}
 use Rattle.boundary_core.specs.Crossing.{core_of}
 use Rattle.boundary_lists.specs.Lists.{members_in}

@@ -1,8 +1,7 @@
 -- `boundary_bare::trigger` meets its contract.
-use Rattle.laws.specs.Usual.{ap, ◌∙◌, [], rules}
+use Rattle.laws.specs.Usual.{ap, ◌∙◌, []}
 use Rattle.boundary_answers.specs.Numbers.{frame_answer}
 use Rattle.frame.specs.declared.Fields.{Fields}
-use Rattle.frame_reading.specs.Reading.{data_size}
 use Rattle.frame_writing.specs.Writing.{whole_length, output_of}
 use Rattle.boundary_bare.proofs.trigger.Goals as goal
 

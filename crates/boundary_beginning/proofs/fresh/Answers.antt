@@ -2,4 +2,4 @@
 use Rattle.boundary_beginning.proofs.fresh.Goals as goal
 
 pub returns : goal.returns
-returns c = rw (c.phase_number.ensures, c.blank-panel.ensures, c.nothing-gathering.ensures)
+returns c = rw (c.blank-panel.ensures, c.nothing-gathering.ensures)

@@ -1,18 +1,17 @@
 -- `boundary_due::is_due` meets its contract.
-use Rattle.laws.specs.Usual.{sym, ◌∙◌}
 use Rattle.boundary_due.proofs.is_due.Goals as goal
 
 pub returns-in-Off : goal.returns-in-Off
-returns-in-Off c = rw (sym c.phase_of-phase.ensures ∙ c.in-Off.is)
+returns-in-Off c = rw (c.in-Off.is)
 
 pub returns-in-Listening : goal.returns-in-Listening
-returns-in-Listening c = rw (sym c.phase_of-phase.ensures ∙ c.in-Listening.is, c.listening_time.ensures)
+returns-in-Listening c = rw (c.in-Listening.is, c.listening_time.ensures)
 
 pub returns-in-Startup : goal.returns-in-Startup
-returns-in-Startup c = rw (sym c.phase_of-phase.ensures ∙ c.in-Startup.is, c.number_wait.ensures)
+returns-in-Startup c = rw (c.in-Startup.is, c.number_wait.ensures)
 
 pub returns-in-Joining : goal.returns-in-Joining
-returns-in-Joining c = rw (sym c.phase_of-phase.ensures ∙ c.in-Joining.is, c.number_wait-in-Joining.ensures)
+returns-in-Joining c = rw (c.in-Joining.is, c.number_wait-in-Joining.ensures)
 
 pub returns-in-Participating : goal.returns-in-Participating
-returns-in-Participating c = rw (sym c.phase_of-phase.ensures ∙ c.in-Participating.is, c.is_placed.ensures)
+returns-in-Participating c = rw (c.in-Participating.is, c.is_placed.ensures)

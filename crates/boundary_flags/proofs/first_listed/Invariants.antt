@@ -8,7 +8,3 @@ use Rattle.boundary_flags.proofs.first_listed.Given as goal
 abbrev pub invariant-loop-number : goal.invariant-loop-number
 invariant-loop-number l =
     min l.end (number_or l.end (first_from l.number (flagged l.listed))) ≡ min l.end (number_or l.end (first_from l.from (flagged l.listed)))
-
-abbrev pub decreases-loop-number : goal.decreases-loop-number
-decreases-loop-number l =
-    l.end - l.number

@@ -1,5 +1,5 @@
 -- `boundary_frames::hear_cyclic` meets its contract.
-use Rattle.laws.specs.Usual.{refl, rules}
+use Rattle.laws.specs.Usual.{refl}
 use Rattle.boundary_core.specs.Crossing.{station_in}
 use Rattle.boundary_places.proofs.Laws.{put_in}
 use Rattle.station.specs.Rules.Hearing.{hear_of}

@@ -1,7 +1,6 @@
 -- `boundary_frames::hear_frame` meets its contract.
 use Rattle.std.specs.Prelude.{◌≡◌, ◌&&◌, ◌<◌}
-use Rattle.laws.specs.Usual.{refl, sym, ap, ap₂, ◌∙◌, Bool, false, arith, rules}
-use borrow.Author.Tests.{ne_eqb}
+use Rattle.laws.specs.Usual.{refl, sym, ap, ap₂, ◌∙◌, Bool, false, arith}
 use Rattle.boundary_answers.specs.declared.Answer.{Answer}
 use Rattle.boundary_core.specs.Crossing.{station_in, station_of}
 use Rattle.boundary_core.specs.declared.Core.{Core}
@@ -21,15 +20,15 @@ use Rattle.members.specs.Members.{is_listed}
 use Rattle.station.specs.Rules.Hearing.{Hearing, hear_of}
 use Rattle.boundary_frames.proofs.hear_frame.Goals as goal
 
-pub returns-then-state-ne-PARTICIPATING : goal.returns-then-state-ne-PARTICIPATING
-returns-then-state-ne-PARTICIPATING c =
+pub returns-then-not-is_in : goal.returns-then-not-is_in
+returns-then-not-is_in c =
     let a = c.args in
     let pre = c.requires in
     let core = c.core_in-state.ensures.value in
     let state = c.core_in-state.result in
     let members = members_in a.listed.now a.areas.now a.watch.now a.misses.now in
     let call : Core → Hearing = λ (k : Core). hear_of (station_of k members) a.octets.now a.memory.now a.assembly.now in
-    let other : for_participant state a.frame ≡ false = ap (λ (phase : Bool). phase && is_cyclic a.frame.code) (ne_eqb state.phase 4 c.if-state-ne-PARTICIPATING.true) in
+    let other : for_participant state a.frame ≡ false = ap (λ (phase : Bool). phase && is_cyclic a.frame.code) (sym c.is_in.ensures ∙ c.if-not-is_in.true) in
     let free = ap (λ (k : Core). is_taken_by k a.frame) core ∙ pre.frame_value in
     let e = c.hear_seldom.ensures in
     let done = entered_leaves state members a.octets.now a.memory.now a.assembly.now a.core.now a.frame free other pre.assembly_value pre.octets_value

@@ -1,8 +1,8 @@
 -- `boundary_hearing::hear_barred` meets its contract.
 use Rattle.std.specs.Prelude.{◌≡◌}
-use Rattle.laws.specs.Usual.{refl, sym, ap, ◌∙◌, true}
+use Rattle.laws.specs.Usual.{refl, sym, ap, ◌∙◌, true, false}
 use borrow.Author.Tests.{not-false}
-use Rattle.boundary_core.specs.Crossing.{core_of, station_of}
+use Rattle.boundary_core.specs.Crossing.{core_of, station_of, is_in, in_phase}
 use Rattle.boundary_core.specs.declared.Core.{Core}
 use Rattle.boundary_lists.specs.Lists.{members_in}
 use Rattle.boundary_places.proofs.Laws.{core_in_back, left_alone, put_in}
@@ -12,6 +12,7 @@ use Rattle.boundary_refused.specs.Taken.{is_taken_by, taken_heard, taken_stops}
 use Rattle.boundary_refused.specs.Unheard.{unlent}
 use Rattle.station.specs.Rules.Hearing.{lent_right, hear_of}
 use Rattle.station.specs.Rules.Starting.{Switching, stop_of}
+use Rattle.station.specs.declared.Phase.TheVariants.{Participating}
 use Rattle.boundary_hearing.proofs.hear_barred.Goals as goal
 
 pub returns-then-not-lent : goal.returns-then-not-lent
@@ -24,8 +25,8 @@ returns-then-not-lent c =
     let numbers = left_alone a.core.now (hear_of station a.octets.now a.memory.now a.assembly.now).station c.core_in-state.ensures.numbers_len left.0 in
     record { core_after = numbers.0; core_after_2 = numbers.1; value = left.1.0; memory_after = left.1.1.0; assembly_after = left.1.1.1.0; misses_after = left.1.1.1.1 }
 
-pub returns-then-state-eq-PARTICIPATING : goal.returns-then-state-eq-PARTICIPATING
-returns-then-state-eq-PARTICIPATING c =
+pub returns-then-is_in : goal.returns-then-is_in
+returns-then-is_in c =
     let a = c.args in
     let pre = c.requires in
     let core = c.core_in-state.ensures in
@@ -34,9 +35,9 @@ returns-then-state-eq-PARTICIPATING c =
     let station = station_of state members in
     let lent : lent_right a.memory.now a.assembly.now ≡ true = c.if-not-lent.false in
     let taken : is_taken_by state a.header ≡ true = not-false _ (rw lent at pre.header_value) in
-    let four : state.phase ≡ 4 = ap (λ (k : Core). k.phase) (sym core.value) ∙ c.if-state-eq-PARTICIPATING.true in
+    let four : state.phase ≡ Participating = in_phase Participating state (ap (is_in Participating) (sym core.value) ∙ sym c.is_in.ensures ∙ c.if-is_in.true) in
     let law = taken_heard state members a.octets.now a.memory.now a.assembly.now a.header lent pre.octets_value four taken in
-    let left = heard_leaves station _ a.memory.now a.assembly.now _ law state _ members (sym (core_in_back a.core.now members)) c.refused-then-state-eq-PARTICIPATING.ensures refl in
+    let left = heard_leaves station _ a.memory.now a.assembly.now _ law state _ members (sym (core_in_back a.core.now members)) c.refused-then-is_in.ensures refl in
     let numbers = left_alone a.core.now (hear_of station a.octets.now a.memory.now a.assembly.now).station core.numbers_len left.0 in
     record { core_after = numbers.0; core_after_2 = numbers.1; value = left.1.0; memory_after = left.1.1.0; assembly_after = left.1.1.1.0; misses_after = left.1.1.1.1 }
 
@@ -50,7 +51,7 @@ returns c =
     let station = station_of state members in
     let lent : lent_right a.memory.now a.assembly.now ≡ true = c.if-not-lent.false in
     let taken : is_taken_by state a.header ≡ true = not-false _ (rw lent at pre.header_value) in
-    let other : ¬ (state.phase ≡ 4) = λ e. c.if-state-eq-PARTICIPATING.false (ap (λ (k : Core). k.phase) core ∙ e) in
+    let other : is_in Participating state ≡ false = ap (is_in Participating) (sym core) ∙ sym c.is_in.ensures ∙ c.if-is_in.false in
     let law = taken_stops state members a.octets.now a.memory.now a.assembly.now a.header lent pre.octets_value other taken in
     let done = c.stop-stopped.ensures in
     let call : Core → Switching = λ (k : Core). stop_of (station_of k members) in

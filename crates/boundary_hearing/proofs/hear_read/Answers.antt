@@ -1,6 +1,6 @@
 -- `boundary_hearing::hear_read` meets its contract.
 use Rattle.std.specs.Prelude.{◌&&◌}
-use Rattle.laws.specs.Usual.{refl, sym, ap, ◌∙◌, Bool, not, length, rules}
+use Rattle.laws.specs.Usual.{refl, sym, ap, ◌∙◌, Bool, not, length}
 use borrow.Author.Tests.{not-true}
 use Rattle.boundary_core.specs.Crossing.{station_of}
 use Rattle.boundary_core.specs.declared.Core.{Core}
@@ -24,12 +24,12 @@ hear_frame-requires c =
     let lent = lent_right a.memory.now a.assembly.now in
     let other = not c.is_taken.result in
     let taken = c.is_taken.ensures ∙ ap (λ (k : Core). is_taken_by k a.header) c.core_in-state.ensures.value in
-    let body = sym c.read_body.ensures ∙ c.in-Frame.is in
+    let body = sym c.read_body.ensures ∙ c.in-Ok.is in
     let free = ap (is_taken_by (core_in a.core.now)) (sym (bodied (length a.octets.now) a.header _ body).is_same) ∙ sym taken ∙ not-true _ (second lent other both) in
     record { frame_value = free; assembly_value = first lent other both; octets_value = read_on a.octets.now a.header _ pre body }
 
-pub returns-in-Refused : goal.returns-in-Refused
-returns-in-Refused c =
+pub returns-in-Err : goal.returns-in-Err
+returns-in-Err c =
     let a = c.args in
     let pre = c.requires in
     let core = c.core_in-state.ensures in
@@ -40,7 +40,7 @@ returns-in-Refused c =
     let lent = lent_right a.memory.now a.assembly.now in
     let other = not c.is_taken.result in
     let taken = c.is_taken.ensures ∙ ap (λ (k : Core). is_taken_by k a.header) core.value in
-    let body = sym c.read_body.ensures ∙ c.in-Refused.is in
+    let body = sym c.read_body.ensures ∙ c.in-Err.is in
     let law = body_refused state members a.octets.now a.memory.now a.assembly.now a.header (first lent other both) pre _ (sym taken ∙ not-true _ (second lent other both)) body in
     let left = heard_leaves station _ a.memory.now a.assembly.now _ law state _ members (sym (core_in_back a.core.now members)) c.refused.ensures refl in
     let heard = hear_of station a.octets.now a.memory.now a.assembly.now in

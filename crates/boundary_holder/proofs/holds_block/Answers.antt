@@ -2,4 +2,4 @@
 use Rattle.boundary_holder.proofs.holds_block.Goals as goal
 
 pub returns : goal.returns
-returns c = rw c.is_placed.ensures
+returns c = rw (c.is_in.ensures, c.is_placed.ensures)

@@ -2,4 +2,4 @@
 use Rattle.boundary_many_ticks.proofs.count_on.Goals as goal
 
 pub returns : goal.returns
-returns c = rw (c.phase_number.ensures, c.with_counts-after.ensures, c.counts_after-counts.ensures, c.counts_in.ensures, c.phase_of-phase.ensures)
+returns c = rw (c.with_counts.ensures, c.counts_after-counts.ensures, c.counts_in.ensures)

@@ -2,4 +2,4 @@
 use Rattle.boundary_many_ticks.proofs.is_calm.Goals as goal
 
 pub returns : goal.returns
-returns c = rw (c.calm_in-calm.ensures, c.phase_of.ensures)
+returns c = rw c.calm_in-calm.ensures

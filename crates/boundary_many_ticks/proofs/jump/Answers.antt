@@ -13,9 +13,9 @@ returns c =
     let law = jumps_in a.core a.listed.now number a.count few in
     record {
       ticks_le_count =
-          rw (c.jump-jumped.ensures, c.counts_in-counts.ensures, c.is_alone-alone.ensures, c.phase_of-phase.ensures)
+          rw (c.jump-jumped.ensures, c.counts_in-counts.ensures, c.is_alone-alone.ensures)
           (law [] a.watch.now [] timed.result (timed.ensures [] [])).0;
       by_index = λ areas misses.
-          rw (c.with_counts.ensures, c.jump-jumped.ensures, c.counts_in-counts.ensures, c.is_alone-alone.ensures, c.phase_of-phase.ensures)
+          rw (c.with_counts.ensures, c.jump-jumped.ensures, c.counts_in-counts.ensures, c.is_alone-alone.ensures)
           (law areas a.watch.now misses timed.result (timed.ensures areas misses)).1;
     }

@@ -1,12 +1,10 @@
 -- `boundary_many_ticks::ticks` meets its contract.
-use Rattle.std.specs.Prelude.{◌≡◌}
 use Rattle.laws.specs.Usual.{refl, sym, ap, ◌∙◌, not, arith}
 use Rattle.boundary_answers.specs.Numbers.{ticked_answer}
 use Rattle.boundary_core.specs.Crossing.{core_of, station_of, station_in}
 use Rattle.boundary_lists.specs.Lists.{members_in}
-use Rattle.station.specs.Rules.Ticking.{tick_answer, tick_of}
+use Rattle.station.specs.Rules.Ticking.{tick_of}
 use Rattle.station.specs.declared.Station.{Station}
-use Rattle.ticking_quiet.specs.Many.{after_ticks}
 use Rattle.ticking_quiet.proofs.ManyLaws.{ticks_station, ticks_answer}
 use Rattle.ticking_jump.specs.JumpTicks.{tick_on}
 use Rattle.boundary_many_ticks.specs.Calm.{calm_station, some_left}
@@ -49,5 +47,5 @@ returns c =
     sym (calm_station at.after (members_in at.listed at.areas at.watch at.misses) at.left (c.watch_time.ensures at.areas at.misses) calm)
     ∙ at.invariant
     ∙ sym (ticks_station a.count station) in
-    let answer = c.answer_in.ensures ∙ ap tick_answer c.phase_of.ensures ∙ sym (ticks_answer a.count station) in
+    let answer = c.answer_in.ensures ∙ sym (ticks_answer a.count station) in
     record { core_value = c.count_on.ensures ∙ ap core_of done; answer_value = c.ticked_answer.ensures ∙ ap ticked_answer answer; misses_after = ap (λ (s : Station). s.members) done }

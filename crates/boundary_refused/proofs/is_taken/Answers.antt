@@ -2,4 +2,4 @@
 use Rattle.boundary_refused.proofs.is_taken.Goals as goal
 
 pub returns : goal.returns
-returns c = rw (c.is_off.ensures, c.phase_of.ensures)
+returns c = rw c.is_off.ensures

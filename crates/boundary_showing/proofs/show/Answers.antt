@@ -2,4 +2,4 @@
 use Rattle.boundary_showing.proofs.show.Goals as goal
 
 pub returns : goal.returns
-returns c = rw (c.figure_shown.ensures, c.figure_in.ensures, c.phase_of.ensures)
+returns c = rw (c.figure_shown.ensures, c.figure_in.ensures)

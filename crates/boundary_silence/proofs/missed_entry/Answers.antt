@@ -1,5 +1,4 @@
 -- `boundary_silence::missed_entry` meets its contract.
-use Rattle.laws.specs.Usual.{rules}
 use borrow.Author.Tests.{le-leb, lt-leb}
 use Rattle.boundary_silence.proofs.missed_entry.Goals as goal
 

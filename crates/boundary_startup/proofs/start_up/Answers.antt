@@ -1,7 +1,6 @@
 -- `boundary_startup::start_up` meets its contract.
-use Rattle.laws.specs.Usual.{sym, ap, ◌∙◌, ℕ, rules}
+use Rattle.laws.specs.Usual.{sym, ap, ◌∙◌, ℕ}
 use Rattle.boundary_core.specs.Crossing.{core_of}
-use Rattle.boundary_lists.specs.Lists.{members_in}
 use Rattle.members.specs.Members.{no_members}
 use Rattle.station.specs.Rules.State.{begun}
 use Rattle.station.specs.declared.Station.{Station}

@@ -2,4 +2,4 @@
 use Rattle.boundary_waiting.proofs.is_waiting.Goals as goal
 
 pub returns : goal.returns
-returns c = rw (c.joining_ends.ensures, c.startup_ends.ensures)
+returns c = rw (c.joining_ends.ensures, c.is_in-3.ensures, c.startup_ends.ensures, c.is_in-2.ensures, c.is_in.ensures)

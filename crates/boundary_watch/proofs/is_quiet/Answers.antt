@@ -2,4 +2,4 @@
 use Rattle.boundary_watch.proofs.is_quiet.Goals as goal
 
 pub returns : goal.returns
-returns c = rw c.watch_ends.ensures
+returns c = rw (c.is_in.ensures, c.watch_ends.ensures)
