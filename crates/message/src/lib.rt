@@ -6,7 +6,7 @@ use station::Heard;
 
 // An allowed cycle, in ticks: 0 to 65,535.
 #[repr(C)]
-#[derive(Clone, Copy)]
+#[derive(Clone, Copy, Default)]
 pub struct Cycle(pub u16);
 
 // What a start takes beside the settings of the station: the allowed cycle (RCT), and the version of our sequence numbers (V_SEQ).
@@ -19,7 +19,7 @@ pub struct Allowance {
 
 // A message as the host hands it in, its data aside.
 #[repr(C)]
-#[derive(Clone, Copy)]
+#[derive(Clone, Copy, Default)]
 pub struct Message {
     // DNA, 255 for all
     pub destination: u8,
@@ -57,7 +57,7 @@ pub struct Delivery {
 
 // A confirmation: the status of a message, its source, its code and its numbers.
 #[repr(C)]
-#[derive(Clone, Copy)]
+#[derive(Clone, Copy, PartialEq, Eq)]
 pub struct Confirmation {
     // R_STS
     pub status: u8,
@@ -72,8 +72,9 @@ pub struct Confirmation {
 }
 
 // What became of the message in the slot.
-#[derive(Clone, Copy)]
+#[derive(Clone, Copy, PartialEq, Eq, Default)]
 pub enum Mail {
+    #[default]
     Nothing,
     Waiting,
     Unconfirmed,
@@ -83,7 +84,7 @@ pub enum Mail {
 }
 
 // The message that waits to go or to be confirmed, or what became of the last one.
-#[derive(Clone, Copy)]
+#[derive(Clone, Copy, Default)]
 pub struct Slot {
     pub mail: Mail,
     pub message: Message,
@@ -100,7 +101,7 @@ pub struct Slot {
 }
 
 // A message for us, by its version and its number.
-#[derive(Clone, Copy)]
+#[derive(Clone, Copy, PartialEq, Eq)]
 pub enum Judged {
     Abnormal,
     OtherVersion,
@@ -108,7 +109,7 @@ pub enum Judged {
     New,
 }
 
-// What handing in a message answers.
+// What handing in a message answers. No Result: off is no refusal, and done says nothing that an Ok could hold.
 #[derive(Clone, Copy)]
 pub enum Posted {
     Off,

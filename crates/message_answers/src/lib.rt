@@ -10,7 +10,7 @@ ghost use Rattle.message_rules.specs.Rules.State.{no_message};
 use boundary_answers::{Answer, Route};
 use message::{Delivery, Message};
 
-// The word of an answer that is a message.
+// The word of an answer that is a message, for C.
 const MESSAGE: u8 = 5;
 
 // What a hearing answers. Where no message is handed over, its message is all zeros.

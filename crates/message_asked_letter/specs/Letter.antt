@@ -1,10 +1,10 @@
 -- Whether a message goes, by the core and the outgoing side alone, and what follows where it goes. Assumes nothing.
-use Rattle.std.specs.Prelude.{◌≡◌, ◌&&◌, ◌||◌, ◌≤◌}
+use Rattle.std.specs.Prelude.{Ok, ◌≡◌, ◌&&◌, ◌||◌, ◌≤◌}
 use Rattle.laws.specs.Usual.{refl, sym, ap, ◌∙◌, Bool, true, false, false≢true, List, ℕ, eqb, leb}
 use Rattle.std.proofs.Common.{leb-true}
 use Rattle.boundary_answers.specs.Numbers.{frame_answer}
 use Rattle.boundary_answers.specs.declared.Answer.{Answer}
-use Rattle.boundary_core.specs.Crossing.{phase_of, station_of}
+use Rattle.boundary_core.specs.Crossing.{station_of}
 use Rattle.boundary_core.specs.declared.Core.{Core}
 use Rattle.boundary_holder.specs.Held.{holds_block}
 use Rattle.boundary_refused.specs.Taken.{participating_in}
@@ -21,16 +21,15 @@ use Rattle.message_rules.specs.Rules.State.{Messages}
 use Rattle.station.specs.Rules.Asking.{placed_in, due_in}
 use Rattle.station.specs.Rules.State.{is_participating}
 use Rattle.station.specs.Types.{Members}
-use Rattle.station.specs.declared.Asked.TheVariants.{Octets}
 use Rattle.station.specs.declared.Phase.{Phase}
 use Rattle.station.specs.declared.Phase.TheVariants.{Off, Listening, Startup, Joining, Participating}
 use Rattle.station.specs.declared.Station.{Station}
 
 -- a participant's block is due where it holds one
 due_held : (core : Core) (members : Members)
-    → (is_participating (phase_of core.phase) && due_in (phase_of core.phase) (station_of core members)) ≡ holds_block core
+    → (is_participating core.phase && due_in core.phase (station_of core members)) ≡ holds_block core
 due_held core members =
-    due_in_lem (phase_of core.phase)
+    due_in_lem core.phase
     ∙ ap (λ (t : Bool). t && (eqb core.view core.own.number && placed_in core.own.areas core.block)) (participating_in core.phase)
   where
     due_in_lem : (phase : Phase)
@@ -71,6 +70,6 @@ goes_small station messages now =
 
 -- what is told of the frame that was written
 pub letter_told : {going letter : Letter} {output written : List ℕ} {answer r : Answer} → going ≡ letter → output ≡ written
-    → answer ≡ frame_answer (whole_length going) → r ≡ written_told output answer → r ≡ asked_told output (Octets (whole_length letter))
+    → answer ≡ frame_answer (whole_length going) → r ≡ written_told output answer → r ≡ asked_told output (Ok (whole_length letter))
 letter_told {output = output} same is framed told =
-    told ∙ ap (written_told output) framed ∙ ap (λ (l : Letter). asked_told output (Octets (whole_length l))) same
+    told ∙ ap (written_told output) framed ∙ ap (λ (l : Letter). asked_told output (Ok (whole_length l))) same

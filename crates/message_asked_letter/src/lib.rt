@@ -1,7 +1,7 @@
 // A message that an asking writes in the place of the block that is due.
 #![tactic(auto)]
 
-ghost use Rattle.std.specs.Prelude.{◌≡◌, ◌≤◌};
+ghost use Rattle.std.specs.Prelude.{Ok, ◌≡◌, ◌≤◌};
 ghost use Rattle.laws.specs.Usual.{true, List, [], length};
 ghost use Rattle.boundary_core.specs.Crossing.{station_of};
 ghost use Rattle.boundary_places.specs.Places.{core_in};
@@ -15,7 +15,6 @@ ghost use Rattle.message_rules.specs.Rules.Again.{gone, letter_going};
 ghost use Rattle.message_rules.specs.Rules.Cycle.{goes};
 ghost use Rattle.message_rules.specs.Rules.State.{Sources, no_sources};
 ghost use Rattle.station.specs.Types.{Members};
-ghost use Rattle.station.specs.declared.Asked.TheVariants.{Octets};
 
 use boundary_answers::{Answer, frame_answer};
 use boundary_places::NUMBERS;
@@ -49,7 +48,7 @@ pub fn send(
     requires no_sources_value { goes (station_of (core_in core.now) no_members) (messages_of (outgoing_in outgoing.old) [] no_sources) ≡ true }
     requires mail_len { length mail.now ≡ 1024 }
     requires in_bounds { 1088 ≤ length output.old }
-    ensures value { (owed : List Confirmation) (sources : Sources) → result ≡ asked_told output.new (Octets (whole_length (letter_going (core_in core.now).own.number (messages_of (outgoing_in outgoing.old) owed sources)))) }
+    ensures value { (owed : List Confirmation) (sources : Sources) → result ≡ asked_told output.new (Ok (whole_length (letter_going (core_in core.now).own.number (messages_of (outgoing_in outgoing.old) owed sources)))) }
     ensures output_after { (owed : List Confirmation) (sources : Sources) → output.new ≡ output_of (letter_going (core_in core.now).own.number (messages_of (outgoing_in outgoing.old) owed sources)) mail.now output.old }
     ensures sources_after { (owed : List Confirmation) (sources : Sources) → messages_of (outgoing_in outgoing.new) owed sources ≡ gone (messages_of (outgoing_in outgoing.old) owed sources) }
     ensures outgoing_after { (owed : List Confirmation) (sources : Sources) → outgoing.new ≡ kept_outgoing outgoing.old (outgoing_of (gone (messages_of (outgoing_in outgoing.old) owed sources))) }

@@ -1,5 +1,5 @@
 -- The contract of the code, of what an asking is, whatever is known of the sources. Assumes nothing.
-use Rattle.std.specs.Prelude.{◌≡◌, ◌&&◌, ◌||◌}
+use Rattle.std.specs.Prelude.{Ok, Err, ◌≡◌, ◌&&◌, ◌||◌}
 use Rattle.laws.specs.Usual.{refl, sym, ap, ap₂, subst, ◌∙◌, Bool, true, false, cond, not, List, ℕ, length}
 use Rattle.boundary_answers.specs.Numbers.{frame_answer, refused_answer}
 use Rattle.boundary_answers.specs.declared.Answer.{Answer}
@@ -27,7 +27,6 @@ use Rattle.message_taking.specs.Taking.{is_holder, taken_asking}
 use Rattle.station.specs.Rules.Asking.{lent_right}
 use Rattle.station.specs.Rules.Calls.{ask}
 use Rattle.station.specs.Types.{Members}
-use Rattle.station.specs.declared.Asked.TheVariants.{Octets, Refused}
 use Rattle.station.specs.declared.Station.{Station}
 use Rattle.message_asking.specs.Asking.{carried_where, both_in, block_in, ask_in}
 use Rattle.message_asking.specs.Token.{is_ended, tells}
@@ -206,7 +205,7 @@ module _ (core : List ℕ) (listed : List Bool) (areas watch misses outgoing owe
     pub refused_meets : {r : Answer} → length core ≡ 18 → length outgoing ≡ 18 → length owed ≡ 25 → mail_right mail ≡ false → r ≡ refused_answer Buffer
         → Meets core outgoing owed call core list outgoing owed turn output r
     refused_meets c o w wrong told =
-        same core outgoing owed (λ s. record { both = lent s; answer = Refused Buffer; turn = turn; output = output }) call (λ s. rw wrong) (
+        same core outgoing owed (λ s. record { both = lent s; answer = Err Buffer; turn = turn; output = output }) call (λ s. rw wrong) (
           λ s. (core_left c).0,
           (
             λ s. (core_left c).1,
@@ -224,7 +223,7 @@ module _ (core : List ℕ) (listed : List Bool) (areas watch misses outgoing owe
     pub letter_meets : {outgoing_after written : List ℕ} {r : Answer} → length core ≡ 18 → length owed ≡ 25 → mail_right mail ≡ true
         → lent_right memory turn output ≡ true → ((s : Sources) → goes station (messages_in outgoing owed s) ≡ true)
         → ((o : List Confirmation) (s : Sources)
-        → r ≡ asked_told written (Octets (whole_length (letter_going (core_in core).own.number (messages_of (outgoing_in outgoing) o s)))))
+        → r ≡ asked_told written (Ok (whole_length (letter_going (core_in core).own.number (messages_of (outgoing_in outgoing) o s)))))
         → ((o : List Confirmation) (s : Sources)
         → written ≡ output_of (letter_going (core_in core).own.number (messages_of (outgoing_in outgoing) o s)) mail output)
         → ((o : List Confirmation) (s : Sources) → messages_of (outgoing_in outgoing_after) o s ≡ gone (messages_of (outgoing_in outgoing) o s))
@@ -249,7 +248,7 @@ module _ (core : List ℕ) (listed : List Bool) (areas watch misses outgoing owe
                         λ s. wrote (owed_in owed) s,
                         λ s.
                             told (owed_in owed) s
-                            ∙ ap (λ (l : List ℕ). asked_told l (Octets (whole_length (letter_going (core_in core).own.number (messages_in outgoing owed s))))) (wrote (owed_in owed) s),
+                            ∙ ap (λ (l : List ℕ). asked_told l (Ok (whole_length (letter_going (core_in core).own.number (messages_in outgoing owed s))))) (wrote (owed_in owed) s),
                       ),
                     ),
                   ),

@@ -1,5 +1,5 @@
 -- Our token frame, by what the base's asking answers and leaves: what is carried in it, what is told of it, and its size. Assumes nothing.
-use Rattle.std.specs.Prelude.{◌≡◌, ◌&&◌, ◌++◌, ◌≤◌}
+use Rattle.std.specs.Prelude.{Ok, Err, ◌≡◌, ◌&&◌, ◌++◌, ◌≤◌}
 use Rattle.laws.specs.Usual.{refl, sym, ap, ap₂, subst, ◌∙◌, Bool, true, false, false≢true, cond, List, ℕ, arith, length, drop, eqb, leb}
 use Rattle.std.proofs.Common.{leb-true, length-append, length-drop}
 use Rattle.area.specs.Areas.{memory_octets}
@@ -23,8 +23,7 @@ use Rattle.station.proofs.Outcomes.AskCases.{ask_cases}
 use Rattle.station.specs.Outcomes.AskCases.{SendCases, AskCases, refuses, sends, triggers, requests, begins, passes}
 use Rattle.station.specs.Rules.Asking.{Asking, ask_of, is_last, next_block, next_station}
 use Rattle.station.specs.Rules.State.{is_participating, holds}
-use Rattle.station.specs.declared.Asked.{Asked}
-use Rattle.station.specs.declared.Asked.TheVariants.{Octets, Refused}
+use Rattle.station.specs.Types.{Asked}
 use Rattle.station.specs.declared.Station.{Station}
 use Rattle.message_asking.specs.Asking.{carried_where}
 
@@ -34,8 +33,8 @@ is_ended after = is_frame after.answer && eqb after.station.block 0
 
 -- by the number of an answer's word
 frame_word : (output : List ℕ) (asked : Asked) → eqb (asked_told output asked).word 3 ≡ is_frame asked
-frame_word output (Octets count) = refl
-frame_word output (Refused refusal) = refl
+frame_word output (Ok count) = refl
+frame_word output (Err refusal) = refl
 
 pub ended_told : (after : Asking) {answer : Answer} {core : Core} → answer ≡ asked_told after.output after.answer → core ≡ core_of after.station
     → (eqb answer.word 3 && eqb core.block 0) ≡ is_ended after
@@ -59,22 +58,22 @@ module _ (both : Both) (asked : Asked) (output : List ℕ) (token : Bool) where
         ≡ asked_told (carried_by both asked output).output (answer_by asked (carried_by both asked output))
 
 module _ (both : Both) (output : List ℕ) where
-  tells_frame : (count : ℕ) (token : Bool) → (is_participating both.ring.phase && is_last both.ring) ≡ token → Tells both (Octets count) output token
+  tells_frame : (count : ℕ) (token : Bool) → (is_participating both.ring.phase && is_last both.ring) ≡ token → Tells both (Ok count) output token
   tells_frame count token e = by token e
     where
       carried : Bool → Carried
       carried t = carried_where t both.messages.owed count output
 
-      by : (token : Bool) → (is_participating both.ring.phase && is_last both.ring) ≡ token → Tells both (Octets count) output token
+      by : (token : Bool) → (is_participating both.ring.phase && is_last both.ring) ≡ token → Tells both (Ok count) output token
       by true e = record {
         still_owed = ap (λ (t : Bool). (carried t).owed) (sym e);
         wrote = ap (λ (t : Bool). (carried t).output) (sym e);
-        told = ap (λ (t : Bool). asked_told (carried t).output (Octets (carried t).count)) (sym e);
+        told = ap (λ (t : Bool). asked_told (carried t).output (Ok (carried t).count)) (sym e);
       }
       by false e = record {
         still_owed = ap (λ (t : Bool). (carried t).owed) (sym e);
         wrote = ap (λ (t : Bool). (carried t).output) (sym e);
-        told = ap (λ (t : Bool). asked_told (carried t).output (Octets (carried t).count)) (sym e);
+        told = ap (λ (t : Bool). asked_told (carried t).output (Ok (carried t).count)) (sym e);
       }
 
 -- one who does not participate does not hold; one who does and writes holds
@@ -93,7 +92,7 @@ module _ (both : Both) (memory turn output : List ℕ) where
       → Tells both after.answer after.output (is_holder both.ring && is_ended after)
   tells_by (refuses refusal) token = by (is_holder both.ring)
     where
-      by : (held : Bool) → Tells both (Refused refusal) output (held && false)
+      by : (held : Bool) → Tells both (Err refusal) output (held && false)
       by true = record { still_owed = refl; wrote = refl; told = refl }
       by false = record { still_owed = refl; wrote = refl; told = refl }
   tells_by (sends lent is (triggers e due)) token =

@@ -29,7 +29,6 @@ fn leave(core: &[u32; NUMBERS], outgoing: &[u32; OUTGOING_NUMBERS], owed: &[u32;
     ensures outgoing_len { length outgoing.now ≡ 18 }
     ensures owed_len { length owed.now ≡ 25 }
 {
-    boundary_handing::leave(core);
     message_kept::leave(outgoing);
     message_owed::leave(owed);
 }

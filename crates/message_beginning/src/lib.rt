@@ -32,6 +32,7 @@ fn begin(
 }
 
 // Where the message part begins anew; else all of it is left alone.
+#[tactic(auto, using(message_owed::specs::Laws::owed_same))]
 pub fn begin_where(
     begins: bool,
     begun: Outgoing,
@@ -45,8 +46,6 @@ pub fn begin_where(
     ensures outgoing_after { outgoing.new ≡ kept_outgoing outgoing.old (outgoing_of (begun_where begins begun (messages_lent outgoing.old owed.old versions.old one_to_one.old to_all.old))) }
     ensures owed_after { owed.new ≡ kept_owed owed.old (begun_where begins begun (messages_lent outgoing.old owed.old versions.old one_to_one.old to_all.old)).owed }
 {
-    message_kept::leave(outgoing);
-    message_owed::leave(owed);
     if begins {
         begin(begun, outgoing, owed, versions, one_to_one, to_all);
     }

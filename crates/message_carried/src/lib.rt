@@ -12,6 +12,7 @@ use message_places::OWED_NUMBERS;
 const CONFIRMATION_OCTETS: usize = 20;
 
 // `count` octets of the frame stand in front in the output. Answers how many there are with the confirmation in. Where it does not fit, it stays owed.
+#[tactic(auto, using(message_owed::specs::Laws::owed_same))]
 pub fn carry_oldest(owed: &mut [u32; OWED_NUMBERS], count: usize, output: &mut [u8]) -> usize
     requires le_count { 64 ≤ count }
     requires count_bound { count ≤ 1088 }
@@ -21,15 +22,13 @@ pub fn carry_oldest(owed: &mut [u32; OWED_NUMBERS], count: usize, output: &mut [
     ensures owed_after { owed_in owed.new ≡ (carried_in (owed_in owed.old) count output.old).owed }
     ensures owed_after_2 { owed.new ≡ kept_owed owed.old (carried_in (owed_in owed.old) count output.old).owed }
 {
-    if !message_owed::is_owing(owed) {
-        message_owed::leave(owed);
+    let Some(oldest) = message_owed::oldest(owed) else {
         return count;
-    }
+    };
     if output.len() < count + CONFIRMATION_OCTETS {
-        message_owed::leave(owed);
         return count;
     }
-    message_carrying::carry(message_owed::oldest(owed), count, output);
+    message_carrying::carry(oldest, count, output);
     message_owed::drop_oldest(owed);
     count + CONFIRMATION_OCTETS
 }

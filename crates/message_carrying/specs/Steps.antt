@@ -1,5 +1,5 @@
 -- A confirmation put into a frame in steps: TFL and RPL, then the data moved up, then its octets. Assumes nothing.
-use Rattle.std.specs.Prelude.{◌≡◌, ◌∷◌, ◌++◌, ◌+◌, ◌-◌, ◌≤◌}
+use Rattle.std.specs.Prelude.{◌≡◌, ◌∷◌, ◌++◌, ◌+◌, ◌≤◌}
 use Rattle.laws.specs.Usual.{refl, sym, ap, ap₂, ◌∙◌, List, [], ℕ, arith, length, take, drop}
 use Rattle.std.proofs.Common.{append_assoc, length-append, length-drop, take-append-drop, length-take-le, take_at, drop-drop}
 use Rattle.std.proofs.lemmas.List.{take-append-le}

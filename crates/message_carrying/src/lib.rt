@@ -12,10 +12,11 @@ use message_confirmations::{M_CTL, RPL};
 use message_octets::octets_of;
 
 // The twenty octets of a confirmation: A_VER, A_NUM, R_STS, R_TCD, R_NA, R_VSEQ, R_SEQ.
+#[tactic(auto, using(frame_writing::proofs::Octets::word_octets))]
 fn confirmation_octets(confirmation: Confirmation) -> [u8; 20]
     ensures { result ≡ confirmation_octets confirmation }
 {
-    let code = confirmation.code;
+    let code = confirmation.code.to_be_bytes();
     let version = octets_of(confirmation.version);
     let number = octets_of(confirmation.number);
     [
@@ -25,8 +26,8 @@ fn confirmation_octets(confirmation: Confirmation) -> [u8; 20]
         0,
         confirmation.status,
         0,
-        (code / 256) as u8,
-        (code % 256) as u8,
+        code[0],
+        code[1],
         0,
         0,
         0,
@@ -43,6 +44,7 @@ fn confirmation_octets(confirmation: Confirmation) -> [u8; 20]
 }
 
 // Sets TFL of a frame of so many octets to 20 more, and RPL.
+#[tactic(auto, using(crate::proofs::Marked::marked_in_two))]
 fn mark(count: usize, output: &mut [u8])
     requires count_bound { count ≤ 1088 }
     requires in_bounds { 64 ≤ length output.old }
@@ -53,21 +55,19 @@ fn mark(count: usize, output: &mut [u8])
     output[M_CTL] = RPL;
 }
 
-// Moves the octets behind the header up by 20 in place: from the last to the first, so that each is read before it is written over.
+// Moves the octets behind the header up by 20 in place.
+#[tactic(auto, using(crate::proofs::CopiedUp::copied_up))]
 fn move_up(count: usize, output: &mut [u8])
     requires le_count { 64 ≤ count }
     requires count_in_bounds { count + 20 ≤ length output.old }
     ensures { output.new ≡ moved count output.old }
 {
-    let mut at = count;
-    while 64 < at {
-        at -= 1;
-        output[at + 20] = output[at];
-    }
+    output.copy_within(64..count, 84);
 }
 
 // Puts a confirmation into the frame of `count` octets that stands in front in the output. Every cyclic frame that we write has 64 to 1088;
 // that 20 more fit is asked before.
+
 pub fn carry(confirmation: Confirmation, count: usize, output: &mut [u8])
     requires le_count { 64 ≤ count }
     requires count_bound { count ≤ 1088 }

@@ -30,14 +30,8 @@ pub fn confirms(octets: &[u8]) -> bool
     if octets.len() < CONFIRMATION_END {
         return false;
     }
-    if !is_marked(octets[position::M_CTL]) {
-        return false;
-    }
     let header = frame_data::header_part(octets.len(), word_at(octets, BSIZE) as usize);
-    if header < CONFIRMATION_END {
-        return false;
-    }
-    octets[position::A_NUM] == 1
+    is_marked(octets[position::M_CTL]) && CONFIRMATION_END <= header && octets[position::A_NUM] == 1
 }
 
 // What it says. A frame that has one has 84 octets or more.

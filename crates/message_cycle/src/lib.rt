@@ -13,14 +13,14 @@ use units::Ticks;
 pub fn lets(cycle: Ticks, allowed: Cycle, went_last: bool) -> bool
     ensures { result ≡ cycle_lets cycle.0 allowed.0 went_last }
 {
-    let ticks = cycle.0 as u64;
-    let most = allowed.0 as u64;
-    (ticks < most) & ((10 * ticks <= 9 * most) | !went_last)
+    let ticks = u64::from(cycle.0);
+    let most = u64::from(allowed.0);
+    ticks < most && (10 * ticks <= 9 * most || !went_last)
 }
 
 // From 1, and 1 after the largest: 0 is no number.
 pub fn number_after(last: u32) -> u32
     ensures { result ≡ number_after last }
 {
-    if last < 0xffffffff { last + 1 } else { 1 }
+    last.checked_add(1).unwrap_or(1)
 }

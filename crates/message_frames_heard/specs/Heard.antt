@@ -4,7 +4,7 @@ use Rattle.std.specs.Prelude.{◌≡◌, ◌&&◌, ◌-◌, ◌≤◌}
 use Rattle.laws.specs.Usual.{refl, ap, ◌∙◌, Bool, true, false, cond, List, ℕ, arith, length, eqb, leb}
 use Rattle.std.proofs.Math.Bool.{and_assoc}
 use Rattle.std.proofs.Common.{leb-true}
-use Rattle.boundary_core.specs.Crossing.{phase_of, core_of, station_kept}
+use Rattle.boundary_core.specs.Crossing.{core_of, station_kept}
 use Rattle.boundary_core.specs.declared.Core.{Core}
 use Rattle.boundary_told.specs.Told.{heard_told}
 use Rattle.frame.specs.Octets.{octet_at, word_at}
@@ -40,8 +40,8 @@ cyclic_word octets (heard.Cyclic token) = refl
 cyclic_word octets (heard.Refused refusal) = refl
 
 -- the phase that a core tells
-pub phase_after : (core : Core) (left : Station) → core ≡ core_of left → phase_of core.phase ≡ left.phase
-phase_after core left is = ap (λ (k : Core). phase_of k.phase) is ∙ ap (λ (s : Station). s.phase) (station_kept left)
+pub phase_after : (core : Core) (left : Station) → core ≡ core_of left → core.phase ≡ left.phase
+phase_after core left is = ap (λ (k : Core). k.phase) is ∙ ap (λ (s : Station). s.phase) (station_kept left)
 
 module _ (station : Station) (messages : Messages) (octets memory assembly : List ℕ) where
   pub forgotten : turns_off station (hear_of station octets memory assembly).station ≡ true

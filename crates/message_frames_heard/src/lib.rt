@@ -3,7 +3,7 @@
 
 ghost use Rattle.std.specs.Prelude.{◌≡◌, ◌&&◌};
 ghost use Rattle.laws.specs.Usual.{not, List};
-ghost use Rattle.boundary_core.specs.Crossing.{core_of, phase_of, station_in};
+ghost use Rattle.boundary_core.specs.Crossing.{core_of, station_in};
 ghost use Rattle.boundary_lists.specs.Lists.{members_in};
 ghost use Rattle.boundary_places.specs.Places.{core_in, kept};
 ghost use Rattle.boundary_told.specs.Told.{heard_told};
@@ -17,22 +17,23 @@ ghost use Rattle.message_rules.specs.Rules.State.{Sources};
 ghost use Rattle.station.specs.Rules.Hearing.{hear_of};
 ghost use Rattle.station.specs.Rules.State.{is_off};
 
-use boundary_core::{Answer, Core, phase_of};
+use boundary_core::{Answer, Core};
 use boundary_places::NUMBERS;
 use boundary_reading::core_in;
 use frame_reading::SNA;
 use message_confirmations::{confirmation_in, confirms};
 use message_places::{OUTGOING_NUMBERS, OWED_NUMBERS};
 use message_taking::is_holder;
+use station::Phase;
 
-// The word of an answer to a cyclic frame.
+// The word of an answer to a cyclic frame, for C: the call below answers numbers.
 const CYCLIC: u8 = 2;
 
 // Number 6 before we participate turns off.
 fn turned_off(before: Core, after: Core) -> bool
-    ensures { result ≡ (not (is_off (phase_of before.phase)) && is_off (phase_of after.phase)) }
+    ensures { result ≡ (not (is_off before.phase) && is_off after.phase) }
 {
-    !state_tests::is_off(phase_of(before.phase)) & state_tests::is_off(phase_of(after.phase))
+    !state_tests::is_off(before.phase) & state_tests::is_off(after.phase)
 }
 
 // Its confirmation, if it may have one, and then the taking that it brings.
@@ -90,7 +91,7 @@ pub fn hear(
         return answer;
     }
     let taking = is_holder(core) & !held;
-    let may = (before.phase == boundary_core::PARTICIPATING) & (answer.word == CYCLIC);
+    let may = before.is_in(Phase::Participating) & (answer.word == CYCLIC);
     message_owed::leave(owed);
     frame_turned(may, taking, before.own.number, octets, outgoing);
     answer

@@ -19,14 +19,13 @@ use message_slots::RESENDS_MOST;
 fn new_number(outgoing: Outgoing) -> u32
     ensures { result ≡ new_number (messages_of outgoing [] no_sources) }
 {
-    let slot = outgoing.slot;
-    let message = slot.message;
     let given = outgoing.given;
-    if message_tests::to_all(message.destination) {
-        message_cycle::number_after(given.all)
+    let last = if message_tests::to_all(outgoing.slot.message.destination) {
+        given.all
     } else {
-        message_cycle::number_after(given.one)
-    }
+        given.one
+    };
+    message_cycle::number_after(last)
 }
 
 // A resend keeps its number.
@@ -34,9 +33,7 @@ fn number_going(outgoing: Outgoing) -> u32
     ensures { result ≡ number_going (messages_of outgoing [] no_sources) }
 {
     let slot = outgoing.slot;
-    let mail = slot.mail;
-    let first = message_tests::is_waiting(mail);
-    if first {
+    if message_tests::is_waiting(slot.mail) {
         new_number(outgoing)
     } else {
         slot.number
@@ -49,10 +46,8 @@ fn resends_after(mail: Mail, resends: u8) -> u8
 {
     if message_tests::is_waiting(mail) {
         0
-    } else if resends < RESENDS_MOST {
-        resends + 1
     } else {
-        RESENDS_MOST
+        resends.saturating_add(1).min(RESENDS_MOST)
     }
 }
 
@@ -71,18 +66,13 @@ fn slot_gone(outgoing: Outgoing) -> Slot
     ensures { result ≡ slot_gone (messages_of outgoing [] no_sources) }
 {
     let slot = outgoing.slot;
-    let before = slot.mail;
-    let message = slot.message;
-    let number = number_going(outgoing);
-    let resends = resends_after(before, slot.resends);
-    let mail = mail_after(message);
     Slot {
-        mail,
-        number,
+        mail: mail_after(slot.message),
+        number: number_going(outgoing),
         ticks: 0,
         takings: 0,
         asked: false,
-        resends,
+        resends: resends_after(slot.mail, slot.resends),
         ..slot
     }
 }
@@ -92,25 +82,21 @@ fn given_after(outgoing: Outgoing) -> Given
     ensures { result ≡ (outgoing_of (gone_of (messages_of outgoing [] no_sources))).given }
 {
     let slot = outgoing.slot;
-    let mail = slot.mail;
-    let message = slot.message;
     let given = outgoing.given;
+    if !message_tests::is_waiting(slot.mail) {
+        return given;
+    }
     let number = new_number(outgoing);
-    let to_all = message_tests::to_all(message.destination);
-    if message_tests::is_waiting(mail) {
-        if to_all {
-            Given {
-                all: number,
-                ..given
-            }
-        } else {
-            Given {
-                one: number,
-                ..given
-            }
+    if message_tests::to_all(slot.message.destination) {
+        Given {
+            all: number,
+            ..given
         }
     } else {
-        given
+        Given {
+            one: number,
+            ..given
+        }
     }
 }
 
@@ -118,17 +104,13 @@ fn given_after(outgoing: Outgoing) -> Given
 pub fn gone(outgoing: Outgoing) -> Outgoing
     ensures { (owed : List Confirmation) (sources : Sources) → messages_of result owed sources ≡ gone_of (messages_of outgoing owed sources) }
 {
-    let slot = slot_gone(outgoing);
-    let given = given_after(outgoing);
-    let before = outgoing.went;
-    let went = Went {
-        now: true,
-        last: before.last,
-    };
     Outgoing {
-        slot,
-        given,
-        went,
+        slot: slot_gone(outgoing),
+        given: given_after(outgoing),
+        went: Went {
+            now: true,
+            ..outgoing.went
+        },
         ..outgoing
     }
 }
@@ -137,13 +119,12 @@ pub fn letter_going(source: u8, outgoing: Outgoing) -> Letter
     ensures { (owed : List Confirmation) (sources : Sources) → result ≡ letter_going source (messages_of outgoing owed sources) }
 {
     let slot = outgoing.slot;
-    let message = slot.message;
-    let going = number_going(outgoing);
+    let number = number_going(outgoing);
     Letter {
         source,
         version: outgoing.version,
-        number: going,
-        message,
+        number,
+        message: slot.message,
         octets: slot.octets,
     }
 }

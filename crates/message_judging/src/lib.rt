@@ -15,8 +15,7 @@ use message::{Confirmation, Judged, Letter, Mail, Slot};
 fn last_of(one_to_one: u32, to_all: u32, letter: Letter) -> u32
     ensures { result ≡ cond (is_to_all letter.message.destination) to_all one_to_one }
 {
-    let message = letter.message;
-    if message_tests::to_all(message.destination) {
+    if message_tests::to_all(letter.message.destination) {
         to_all
     } else {
         one_to_one
@@ -27,21 +26,18 @@ fn last_of(one_to_one: u32, to_all: u32, letter: Letter) -> u32
 pub fn judge(version: u32, one_to_one: u32, to_all: u32, letter: Letter) -> Judged
     ensures { result ≡ judge_of (record { version = version; one_to_one = one_to_one; to_all = to_all }) letter }
 {
-    let last = last_of(one_to_one, to_all, letter);
-    if (letter.version == 0) | (letter.number == 0) {
-        return Judged::Abnormal;
-    }
-    if !((version == 0) | (version == letter.version)) {
-        return Judged::OtherVersion;
-    }
-    if letter.number == last {
+    if letter.version == 0 || letter.number == 0 {
+        Judged::Abnormal
+    } else if version != 0 && version != letter.version {
+        Judged::OtherVersion
+    } else if letter.number == last_of(one_to_one, to_all, letter) {
         Judged::Repeat
     } else {
         Judged::New
     }
 }
 
-// R_STS
+// R_STS. Several answers have one status, so this is a function of the judging and no `From`.
 pub fn status_of(judged: Judged) -> u8
     ensures { result ≡ status_of judged }
 {
@@ -53,7 +49,7 @@ pub fn status_of(judged: Judged) -> u8
     }
 }
 
-// What became of a message, for the host.
+// What became of a message, for the host and for C. A `From<Mail> for u8` would have to stand in `message`, and be this `match`.
 pub fn mail_number(mail: Mail) -> u8
     ensures { result ≡ mail_number mail }
 {
@@ -70,11 +66,10 @@ pub fn mail_number(mail: Mail) -> u8
 pub fn confirmation_of(judged: Judged, letter: Letter) -> Confirmation
     ensures { result ≡ confirmation_of judged letter }
 {
-    let message = letter.message;
     Confirmation {
         status: status_of(judged),
         source: letter.source,
-        code: message.code,
+        code: letter.message.code,
         version: letter.version,
         number: letter.number,
     }
@@ -83,17 +78,17 @@ pub fn confirmation_of(judged: Judged, letter: Letter) -> Confirmation
 pub fn same(a: Confirmation, b: Confirmation) -> bool
     ensures { result ≡ same_confirmation a b }
 {
-    ((a.status == b.status) & (a.source == b.source))
-        & ((a.code == b.code) & ((a.version == b.version) & (a.number == b.number)))
+    a == b
 }
 
 // Whether a confirmation in a frame of this source speaks of the message in our slot, by our number and our version.
 pub fn speaks_of(own: u8, version: u32, slot: Slot, source: u8, confirmation: Confirmation) -> bool
     ensures { result ≡ speaks_by own version slot source confirmation }
 {
-    let mail = slot.mail;
-    let message = slot.message;
-    (message_tests::is_unconfirmed(mail) & (message.destination == source))
-        & (((message.code == confirmation.code) & (slot.number == confirmation.number))
-            & ((own == confirmation.source) & (version == confirmation.version)))
+    message_tests::is_unconfirmed(slot.mail)
+        && slot.message.destination == source
+        && slot.message.code == confirmation.code
+        && slot.number == confirmation.number
+        && own == confirmation.source
+        && version == confirmation.version
 }

@@ -7,6 +7,7 @@ ghost use Rattle.message_places.specs.Places.{mail_at, mail_in, message_in, slot
 
 use low_parts::{flag_of, octet_of, octets_of, with_flag, with_octet, with_octets};
 use message::{Cycle, Mail, Message, Slot};
+use message_judging::mail_number;
 use message_places::{Given, OUTGOING_NUMBERS, Outgoing, Went};
 
 // The largest of the numbers that a message's mail has.
@@ -15,22 +16,14 @@ const MAIL_LARGEST: u8 = 5;
 fn mail_at(number: u8) -> Mail
     ensures { result ≡ mail_at number }
 {
-    if number == 1 {
-        return Mail::Waiting;
+    match number {
+        1 => Mail::Waiting,
+        2 => Mail::Unconfirmed,
+        3 => Mail::Confirmed,
+        4 => Mail::Sent,
+        5 => Mail::Failed,
+        _ => Mail::Nothing,
     }
-    if number == 2 {
-        return Mail::Unconfirmed;
-    }
-    if number == 3 {
-        return Mail::Confirmed;
-    }
-    if number == 4 {
-        return Mail::Sent;
-    }
-    if number == 5 {
-        return Mail::Failed;
-    }
-    Mail::Nothing
 }
 
 fn mail_in(number: u32) -> u8
@@ -40,9 +33,7 @@ fn mail_in(number: u32) -> u8
     if octet <= MAIL_LARGEST { octet } else { 0 }
 }
 
-// The numbers are read as a slice, since a proof is told the length of a slice, and not of an array behind a reference.
-fn message_in(numbers: &[u32]) -> Message
-    requires { length numbers.now ≡ 18 }
+fn message_in(numbers: &[u32; OUTGOING_NUMBERS]) -> Message
     ensures { result ≡ message_in numbers.now }
 {
     Message {
@@ -54,15 +45,12 @@ fn message_in(numbers: &[u32]) -> Message
     }
 }
 
-fn slot_in(numbers: &[u32]) -> Slot
-    requires { length numbers.now ≡ 18 }
+fn slot_in(numbers: &[u32; OUTGOING_NUMBERS]) -> Slot
     ensures { result ≡ slot_in numbers.now }
 {
-    let mail = mail_at(mail_in(numbers[2]));
-    let message = message_in(numbers);
     Slot {
-        mail,
-        message,
+        mail: mail_at(mail_in(numbers[2])),
+        message: message_in(numbers),
         octets: octets_of(numbers[8]),
         number: numbers[9],
         ticks: octets_of(numbers[10]),
@@ -72,15 +60,15 @@ fn slot_in(numbers: &[u32]) -> Slot
     }
 }
 
-fn read(numbers: &[u32]) -> Outgoing
-    requires { length numbers.now ≡ 18 }
-    ensures { result ≡ outgoing_in numbers.now }
+#[tactic(auto, unfolding(message_places::specs::Places::outgoing_in))]
+pub fn outgoing_in(numbers: &[u32; OUTGOING_NUMBERS]) -> Outgoing
+    ensures value { result ≡ outgoing_in numbers.now }
+    ensures numbers_len { length numbers.now ≡ 18 }
 {
-    let slot = slot_in(numbers);
     Outgoing {
         allowed: Cycle(octets_of(numbers[0])),
         version: numbers[1],
-        slot,
+        slot: slot_in(numbers),
         given: Given {
             one: numbers[14],
             all: numbers[15],
@@ -92,24 +80,15 @@ fn read(numbers: &[u32]) -> Outgoing
     }
 }
 
-pub fn outgoing_in(numbers: &[u32; OUTGOING_NUMBERS]) -> Outgoing
-    ensures value { result ≡ outgoing_in numbers.now }
-    ensures numbers_len { length numbers.now ≡ 18 }
-{
-    read(numbers)
-}
-
 // Nothing is done to the numbers. A proof is told here how many they are.
 pub fn leave(numbers: &[u32; OUTGOING_NUMBERS])
     ensures { length numbers.now ≡ 18 }
-{
-    let _ = read(numbers);
-}
+{}
 
 fn with_mail(number: u32, mail: Mail) -> u32
     ensures { result ≡ with_mail number mail }
 {
-    let after = message_judging::mail_number(mail);
+    let after = mail_number(mail);
     if mail_in(number) == after {
         number
     } else {
@@ -117,16 +96,16 @@ fn with_mail(number: u32, mail: Mail) -> u32
     }
 }
 
+#[tactic(auto, unfolding(message_places::specs::Places::kept_outgoing))]
 fn put(numbers: &mut [u32; OUTGOING_NUMBERS], outgoing: Outgoing)
     ensures { numbers.new ≡ kept_outgoing numbers.old outgoing }
 {
     let slot = outgoing.slot;
-    let mail = slot.mail;
     let message = slot.message;
     *numbers = [
         with_octets(numbers[0], outgoing.allowed.0),
         outgoing.version,
-        with_mail(numbers[2], mail),
+        with_mail(numbers[2], slot.mail),
         with_octet(numbers[3], message.destination),
         with_octets(numbers[4], message.code),
         with_octets(numbers[5], message.size),

@@ -2,7 +2,7 @@
 use Rattle.std.specs.Prelude.{◌≡◌, ◌&&◌}
 use Rattle.laws.specs.Usual.{refl, sym, Bool, true, false, cond, not, false≢true, ℕ}
 use Rattle.boundary_answers.specs.Numbers.{off_answer, done_answer, refused_answer, heard_answer}
-use Rattle.boundary_core.specs.Crossing.{phase_of, station_of}
+use Rattle.boundary_core.specs.Crossing.{station_of}
 use Rattle.boundary_core.specs.declared.Core.{Core}
 use Rattle.laws.specs.Tests.{first, second}
 use Rattle.members.specs.Members.{is_listed}
@@ -35,9 +35,9 @@ module _ (core : Core) (members : Members) (given : ℕ) (letter : Letter) where
   turned_off messages turns =
       let address = first (addressed letter) _ turns in
       let six = first (is_taken_by core letter) _ (second (addressed letter) _ turns) in
-      let outside : is_participating (phase_of core.phase) ≡ false =
+      let outside : is_participating core.phase ≡ false =
       negated _ (second (is_taken_by core letter) _ (second (addressed letter) _ turns)) in
-      let on : not (is_off (phase_of core.phase)) ≡ true = first (not (is_off (phase_of core.phase))) _ six in
+      let on : not (is_off core.phase) ≡ true = first (not (is_off core.phase)) _ six in
       rw (address, six, outside, on)
     where
       negated : (a : Bool) → not a ≡ true → a ≡ false
@@ -58,15 +58,15 @@ module _ (core : Core) (members : Members) (given : ℕ) (letter : Letter) where
         let e₃ = second (measured given letter) _ e₂ in
         let nine = first (not (is_stranger_by core known)) _ e₃ in
         let ours = second (not (is_stranger_by core known)) _ e₃ in
-        let on = in_on (phase_of core.phase) (first (is_participating (phase_of core.phase)) _ ours) in
+        let on = in_on core.phase (first (is_participating core.phase) _ ours) in
         rw (is, address, six, size, nine, ours, on)
 
     pub passed_heard : turns_off_by core letter ≡ false → is_received_by core known given letter ≡ false
         → letter_heard station messages given letter ≡ unchanged station messages (received.Told (passed_by core known given letter))
     passed_heard stays passes =
         rw is
-        (by (addressed letter) (is_taken_by core letter) (is_participating (phase_of core.phase)) (measured given letter) (is_stranger_by core known)
-        (is_off (phase_of core.phase)) (is_for_us_by core letter) stays passes)
+        (by (addressed letter) (is_taken_by core letter) (is_participating core.phase) (measured given letter) (is_stranger_by core known)
+        (is_off core.phase) (is_for_us_by core letter) stays passes)
       where
         by : (a t p m n o u : Bool) → (a && (t && not p)) ≡ false → (a && (not t && (m && (not n && u)))) ≡ false
             → need a (refused station messages refusals.Address)
@@ -109,8 +109,8 @@ module _ (core : Core) (known : Bool) (given : ℕ) (letter : Letter) where
         answer_nine nine = rw (address, free, size, nine)
 
         module _ (friend : is_stranger_by core known ≡ false) where
-          pub answer_off : is_off (phase_of core.phase) ≡ true → heard_answer (passed_by core known given letter) ≡ off_answer
+          pub answer_off : is_off core.phase ≡ true → heard_answer (passed_by core known given letter) ≡ off_answer
           answer_off out = rw (address, free, size, friend, out)
 
-          pub answer_done : is_off (phase_of core.phase) ≡ false → heard_answer (passed_by core known given letter) ≡ done_answer
+          pub answer_done : is_off core.phase ≡ false → heard_answer (passed_by core known given letter) ≡ done_answer
           answer_done on = rw (address, free, size, friend, on)

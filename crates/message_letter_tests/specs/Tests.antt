@@ -1,7 +1,6 @@
 -- A message that was heard, by the core and what the list says of its source.
 use Rattle.std.specs.Prelude.{◌&&◌, ◌||◌}
 use Rattle.laws.specs.Usual.{Bool, cond, not, ℕ, eqb}
-use Rattle.boundary_core.specs.Crossing.{phase_of}
 use Rattle.boundary_core.specs.declared.Core.{Core}
 use Rattle.message.specs.Codes.{to_all}
 use Rattle.message.specs.declared.Letter.{Letter}
@@ -13,19 +12,19 @@ use Rattle.station.specs.declared.Heard.TheVariants as heard
 
 -- 6
 abbrev pub is_taken_by : Core → Letter → Bool
-is_taken_by core letter = not (is_off (phase_of core.phase)) && eqb letter.source core.own.number
+is_taken_by core letter = not (is_off core.phase) && eqb letter.source core.own.number
 
 -- 6 before we participate, where 5 does not apply
 abbrev pub turns_off_by : Core → Letter → Bool
-turns_off_by core letter = addressed letter && (is_taken_by core letter && not (is_participating (phase_of core.phase)))
+turns_off_by core letter = addressed letter && (is_taken_by core letter && not (is_participating core.phase))
 
 -- 9, by whether the source is listed
 abbrev pub is_stranger_by : Core → Bool → Bool
-is_stranger_by core known = is_participating (phase_of core.phase) && not known
+is_stranger_by core known = is_participating core.phase && not known
 
 abbrev pub is_for_us_by : Core → Letter → Bool
 is_for_us_by core letter =
-    is_participating (phase_of core.phase)
+    is_participating core.phase
     && (eqb letter.message.destination core.own.number || to_all letter.message.destination)
 
 -- no refusal met it and it is for us
@@ -41,4 +40,4 @@ passed_by core known given letter =
     (cond (is_taken_by core letter) (heard.Refused refusals.Taken)
     (cond (not (measured given letter)) (heard.Refused refusals.Block)
     (cond (is_stranger_by core known) (heard.Refused refusals.Stranger)
-    (cond (is_off (phase_of core.phase)) heard.Off heard.Done))))
+    (cond (is_off core.phase) heard.Off heard.Done))))

@@ -3,28 +3,28 @@
 
 ghost use Rattle.std.specs.Prelude.{◌≡◌};
 ghost use Rattle.boundary_answers.specs.Numbers.{heard_answer};
-ghost use Rattle.boundary_core.specs.Crossing.{phase_of};
 ghost use Rattle.message_letter_tests.specs.Tests.{is_taken_by, turns_off_by, is_for_us_by, is_received_by, passed_by};
 ghost use Rattle.station.specs.Rules.State.{is_participating};
 
 use boundary_answers::{Answer, done, off, refused};
-use boundary_core::{Core, phase_of};
+use boundary_core::Core;
 use frame::Refusal;
 use frame_reading::is_station;
 use message::Letter;
 use message_reading::is_measured;
+use station::Phase;
 
 fn is_participant(core: Core) -> bool
-    ensures { result ≡ is_participating (phase_of core.phase) }
+    ensures { result ≡ is_participating core.phase }
 {
-    core.phase == boundary_core::PARTICIPATING
+    core.is_in(Phase::Participating)
 }
 
 // Number 6: the source is our own number, which an off station does not ask.
 fn is_taken(core: Core, letter: Letter) -> bool
     ensures { result ≡ is_taken_by core letter }
 {
-    !state_tests::is_off(phase_of(core.phase)) & (letter.source == core.own.number)
+    !state_tests::is_off(core.phase) & (letter.source == core.own.number)
 }
 
 // Number 6 before we participate.
@@ -68,7 +68,7 @@ pub fn answer_to(core: Core, known: bool, given: usize, letter: Letter) -> Answe
     if is_participant(core) & !known {
         return refused(Refusal::Stranger);
     }
-    if state_tests::is_off(phase_of(core.phase)) {
+    if state_tests::is_off(core.phase) {
         return off();
     }
     done()

@@ -9,27 +9,22 @@ ghost use Rattle.frame.specs.Positions.{TCD as code_place};
 ghost use Rattle.message_letters.specs.Told.{is_refused_by_code};
 ghost use Rattle.message_rules.specs.Rules.Hearing.{is_letter};
 
-use frame_reading::{Read, TCD};
+use frame::Refusal;
+use frame_reading::TCD;
 
 fn is_refused_by_code(octets: &[u8]) -> bool
     ensures { result ≡ is_refused_by_code (read_header_of octets.now) }
 {
-    match frame_reading::read_header(octets) {
-        Read::Frame(_) => false,
-        Read::Refused(refusal) => frame_refusals::number_of(refusal) == 4,
-    }
+    matches!(frame_reading::read_header(octets), Err(Refusal::Code))
 }
 
 // A frame of the base has no message code: one look at TCD tells it apart.
 pub fn is_letter(octets: &[u8], memory: &[u8], assembly: &[u8]) -> bool
     ensures { result ≡ is_letter octets.now memory.now assembly.now }
 {
-    if octets.len() < 64 {
-        return false;
-    }
-    if !message_codes::is_message(frame_reading::word_at(octets, TCD)) {
-        return false;
-    }
-    ((memory.len() == area::MEMORY_OCTETS) & (assembly.len() == area::MEMORY_OCTETS))
-        & is_refused_by_code(octets)
+    octets.len() >= 64
+        && message_codes::is_message(frame_reading::word_at(octets, TCD))
+        && memory.len() == area::MEMORY_OCTETS
+        && assembly.len() == area::MEMORY_OCTETS
+        && is_refused_by_code(octets)
 }

@@ -5,13 +5,9 @@ ghost use Rattle.std.specs.Prelude.{◌≡◌};
 ghost use Rattle.frame_writing.specs.Writing.{long};
 
 // A number in four octets, the most significant first (clause 8.3).
+#[tactic(auto, using(frame_writing::proofs::Octets::long_octets))]
 pub fn octets_of(number: u32) -> [u8; 4]
     ensures { result ≡ long number }
 {
-    [
-        (number / 16777216) as u8,
-        (number / 65536 % 256) as u8,
-        (number / 256 % 256) as u8,
-        (number % 256) as u8,
-    ]
+    number.to_be_bytes()
 }

@@ -1,42 +1,20 @@
--- The numbers searched, and changed one at a time. Assumes nothing.
+-- The numbers read, and changed. Assumes nothing.
 use Rattle.std.specs.Prelude.{◌≡◌, ◌∷◌, ◌++◌, ◌+◌, ◌-◌, ◌*◌, ◌<◌, ◌≤◌}
 use Rattle.laws.specs.Usual.{refl, sym, ap, ap₂, ◌∙◌, Bool, true, false, cond, not, List, [], ℕ, suc, arith, length, get_or, take, drop, set, eqb}
 use Prim.Native.Nat.{zero}
-use Rattle.std.proofs.Common.{eq-eqb, ne_eqb, eqb-true, length-append, length-drop, get_or-append-add, get_or-drop, drop-drop, add-one}
+use Rattle.std.proofs.Common.{eq-eqb, ne_eqb, eqb-true, length-append, length-drop, get_or-drop, drop-drop, get_or-append-add, add-one}
 use Rattle.std.proofs.lemmas.List.Edits.{sets-eq}
-use Rattle.std.proofs.Math.Seq.{paste, length_paste_head, paste-suc}
 use Rattle.message.specs.declared.Confirmation.{Confirmation}
 use Rattle.message_places.specs.Owed.{head_of, rows_in, count_in, owed_in, rows_of, with_count, kept_owed}
-use Rattle.message_rules.specs.Rules.Confirming.{same_confirmation, is_owed}
 use Rattle.message_owed.specs.Owing.{is_owing, confirmation_at}
-use Rattle.message_owed.specs.Laws.{length_rows, length_owed, rows_again, owed_same}
+use Rattle.message_owed.specs.Laws.{length_rows, length_owed, rows_again, owed_same, at_most_eight, octets_owed, octets_dropped, owed_back}
+use Rattle.std.proofs.Math.Seq.{paste, length_paste_head, paste-suc}
+use Rattle.message_rules.specs.Rules.Confirming.{same_confirmation, is_owed}
 
 rows_on : (numbers : List ℕ) (at count : ℕ) → rows_in (suc count) (drop at numbers) ≡ confirmation_at numbers at ∷ rows_in count (drop (at + 3) numbers)
 rows_on numbers at count =
     let here : at + 0 ≡ at = omega arith in
     rw (get_or-drop at numbers 0 0, get_or-drop at numbers 1 0, get_or-drop at numbers 2 0, drop-drop 3 at numbers, here)
-
--- the search for a confirmation, from the place of one that is owed on
-module _ (confirmation : Confirmation) (numbers : List ℕ) (at : ℕ) where
-  pub owed_found : (left : ℕ) → 0 < left → same_confirmation confirmation (confirmation_at numbers at) ≡ true
-      → is_owed confirmation (rows_in left (drop at numbers)) ≡ true
-  owed_found zero some same = absurd (omega arith)
-  owed_found (suc left) some same =
-      ap (is_owed confirmation) (rows_on numbers at left)
-      ∙ ap (λ (t : Bool). cond t true (is_owed confirmation (rows_in left (drop (at + 3) numbers)))) same
-
-  pub owed_on : (left : ℕ) → 0 < left → same_confirmation confirmation (confirmation_at numbers at) ≡ false
-      → is_owed confirmation (rows_in left (drop at numbers)) ≡ is_owed confirmation (rows_in (left - 1) (drop (at + 3) numbers))
-  owed_on zero some other = absurd (omega arith)
-  owed_on (suc left) some other =
-      let fewer : left ≡ suc left - 1 = omega arith in
-      ap (is_owed confirmation) (rows_on numbers at left)
-      ∙ ap (λ (t : Bool). cond t true (is_owed confirmation (rows_in left (drop (at + 3) numbers)))) other
-      ∙ ap (λ (k : ℕ). is_owed confirmation (rows_in k (drop (at + 3) numbers))) fewer
-
-  pub owed_end : (left : ℕ) → left ≤ 0 → is_owed confirmation (rows_in left (drop at numbers)) ≡ false
-  owed_end zero none = refl
-  owed_end (suc left) none = absurd (omega arith)
 
 -- whether anything is owed, and the oldest of it
 module _ (numbers : List ℕ) where
@@ -99,25 +77,6 @@ kept_added (number ∷ rows) confirmation count at all first few place =
     row : List ℕ
     row = head ∷ confirmation.version ∷ confirmation.number ∷ []
 
--- so many numbers moved three places to the front, and one more
-pub shift_on : (numbers moved : List ℕ) (done : ℕ) → length numbers ≡ 25 → done < 21 → moved ≡ paste numbers 1 (drop 4 numbers) done
-    → set moved (1 + done) (get_or moved (4 + done) 0) ≡ paste numbers 1 (drop 4 numbers) (done + 1)
-shift_on numbers moved done all few e =
-    let rest : done < length (drop 4 numbers) = rw (length-drop 4 numbers) (omega arith) in
-    let front : length (take 1 numbers ++ take done (drop 4 numbers)) ≡ 1 + done =
-    length_paste_head numbers 1 (drop 4 numbers) done (omega arith) (omega arith) in
-    let place : 4 + done ≡ length (take 1 numbers ++ take done (drop 4 numbers)) + 3 = rw front (omega arith) in
-    let there : 1 + done + 3 ≡ 4 + done = omega arith in
-    let read : get_or moved (4 + done) 0 ≡ get_or (drop 4 numbers) done 0 =
-    ap₂ (λ (l : List ℕ) (i : ℕ). get_or l i 0) e place
-    ∙ get_or-append-add (take 1 numbers ++ take done (drop 4 numbers)) (drop (1 + done) numbers) 3 0
-    ∙ get_or-drop (1 + done) numbers 3 0
-    ∙ ap (λ (i : ℕ). get_or numbers i 0) there
-    ∙ sym (get_or-drop 4 numbers done 0) in
-    ap₂ (λ (l : List ℕ) (x : ℕ). set l (1 + done) x) e read
-    ∙ paste-suc numbers 1 (drop 4 numbers) done 0 (omega arith) rest
-    ∙ ap (λ (k : ℕ). paste numbers 1 (drop 4 numbers) k) (sym (add-one done))
-
 -- the oldest one dropped
 still_owed : (number : ℕ) (rows : List ℕ) (count : ℕ) → count_in number ≡ suc count → drop 1 (owed_in (number ∷ rows)) ≡ rows_in count (drop 3 rows)
 unfolding owed_in
@@ -148,6 +107,12 @@ kept_none numbers none all =
     let empty = owed_none numbers none in
     sym (owed_same numbers all) ∙ ap (kept_owed numbers) (empty ∙ sym (ap (drop 1) empty))
 
+-- numbers with the oldest one dropped hold the others
+pub held_dropped : (numbers : List ℕ) {after : List ℕ} → after ≡ kept_owed numbers (drop 1 (owed_in numbers)) → owed_in after ≡ drop 1 (owed_in numbers)
+held_dropped numbers is =
+    let few : length (drop 1 (owed_in numbers)) ≤ 8 = rw (length-drop 1 (owed_in numbers)) (omega (arith, at_most_eight numbers)) in
+    ap owed_in is ∙ owed_back numbers (drop 1 (owed_in numbers)) few (octets_dropped (owed_in numbers) (octets_owed numbers))
+
 -- all of it forgotten
 pub kept_forgotten : (numbers : List ℕ) → length numbers ≡ 25 → set numbers 0 0 ≡ kept_owed numbers []
 unfolding kept_owed
@@ -157,3 +122,44 @@ kept_forgotten (number ∷ rows) all = by (eqb (count_in number) 0) refl
     by : (same : Bool) → eqb (count_in number) 0 ≡ same → 0 ∷ rows ≡ cond same number 0 ∷ rows
     by true e = let zeroth : 0 ≡ number = omega (arith, eqb-true (count_in number) 0 e) in ap (λ (n : ℕ). n ∷ rows) zeroth
     by false e = refl
+
+-- the search for a confirmation, from the place of one that is owed on
+module _ (confirmation : Confirmation) (numbers : List ℕ) (at : ℕ) where
+  pub owed_found : (left : ℕ) → 0 < left → same_confirmation confirmation (confirmation_at numbers at) ≡ true
+      → is_owed confirmation (rows_in left (drop at numbers)) ≡ true
+  owed_found zero some same = absurd (omega arith)
+  owed_found (suc left) some same =
+      ap (is_owed confirmation) (rows_on numbers at left)
+      ∙ ap (λ (t : Bool). cond t true (is_owed confirmation (rows_in left (drop (at + 3) numbers)))) same
+
+  pub owed_on : (left : ℕ) → 0 < left → same_confirmation confirmation (confirmation_at numbers at) ≡ false
+      → is_owed confirmation (rows_in left (drop at numbers)) ≡ is_owed confirmation (rows_in (left - 1) (drop (at + 3) numbers))
+  owed_on zero some other = absurd (omega arith)
+  owed_on (suc left) some other =
+      let fewer : left ≡ suc left - 1 = omega arith in
+      ap (is_owed confirmation) (rows_on numbers at left)
+      ∙ ap (λ (t : Bool). cond t true (is_owed confirmation (rows_in left (drop (at + 3) numbers)))) other
+      ∙ ap (λ (k : ℕ). is_owed confirmation (rows_in k (drop (at + 3) numbers))) fewer
+
+  pub owed_end : (left : ℕ) → left ≤ 0 → is_owed confirmation (rows_in left (drop at numbers)) ≡ false
+  owed_end zero none = refl
+  owed_end (suc left) none = absurd (omega arith)
+
+-- so many numbers moved three places to the front, and one more
+pub shift_on : (numbers moved : List ℕ) (done : ℕ) → length numbers ≡ 25 → done < 21 → moved ≡ paste numbers 1 (drop 4 numbers) done
+    → set moved (1 + done) (get_or moved (4 + done) 0) ≡ paste numbers 1 (drop 4 numbers) (done + 1)
+shift_on numbers moved done all few e =
+    let rest : done < length (drop 4 numbers) = rw (length-drop 4 numbers) (omega arith) in
+    let front : length (take 1 numbers ++ take done (drop 4 numbers)) ≡ 1 + done =
+    length_paste_head numbers 1 (drop 4 numbers) done (omega arith) (omega arith) in
+    let place : 4 + done ≡ length (take 1 numbers ++ take done (drop 4 numbers)) + 3 = rw front (omega arith) in
+    let there : 1 + done + 3 ≡ 4 + done = omega arith in
+    let read : get_or moved (4 + done) 0 ≡ get_or (drop 4 numbers) done 0 =
+    ap₂ (λ (l : List ℕ) (i : ℕ). get_or l i 0) e place
+    ∙ get_or-append-add (take 1 numbers ++ take done (drop 4 numbers)) (drop (1 + done) numbers) 3 0
+    ∙ get_or-drop (1 + done) numbers 3 0
+    ∙ ap (λ (i : ℕ). get_or numbers i 0) there
+    ∙ sym (get_or-drop 4 numbers done 0) in
+    ap₂ (λ (l : List ℕ) (x : ℕ). set l (1 + done) x) e read
+    ∙ paste-suc numbers 1 (drop 4 numbers) done 0 (omega arith) rest
+    ∙ ap (λ (k : ℕ). paste numbers 1 (drop 4 numbers) k) (sym (add-one done))

@@ -15,33 +15,26 @@ use message_places::OWED_NUMBERS;
 // As many as one cyclic transmission may carry.
 const MOST: u32 = 8;
 
-fn are_twenty_five(numbers: &[u32])
-    requires { length numbers.now ≡ 25 }
-    ensures { length numbers.now ≡ 25 }
-{}
-
 // Nothing is done to the numbers. A proof is told here how many they are.
 pub fn leave(owed: &[u32; OWED_NUMBERS])
     ensures { length owed.now ≡ 25 }
-{
-    are_twenty_five(owed);
-}
+{}
 
 fn count_in(number: u32) -> u32
     ensures { result ≡ count_in number }
 {
-    if number < MOST { number } else { MOST }
+    number.min(MOST)
 }
 
 fn head_of(confirmation: Confirmation) -> u32
     ensures { result ≡ head_of confirmation }
 {
-    confirmation.status as u32
-        + 256 * (confirmation.source as u32)
-        + 65536 * (confirmation.code as u32)
+    u32::from(confirmation.status)
+        + 256 * u32::from(confirmation.source)
+        + 65536 * u32::from(confirmation.code)
 }
 
-// The confirmation from a place on. The numbers are a slice, since a proof is told the length of a slice, and not of an array behind a reference.
+// The confirmation from a place on.
 fn confirmation_at(numbers: &[u32], at: usize) -> Confirmation
     requires { at + 2 < length numbers.now }
     ensures { result ≡ confirmation_at numbers.now at }
@@ -56,44 +49,33 @@ fn confirmation_at(numbers: &[u32], at: usize) -> Confirmation
     }
 }
 
-fn is_owed(numbers: &[u32], confirmation: Confirmation) -> bool
-    requires { length numbers.now ≡ 25 }
-    ensures { result ≡ is_owed confirmation (owed_in numbers.now) }
+fn is_owed(owed: &[u32; OWED_NUMBERS], confirmation: Confirmation) -> bool
+    ensures { result ≡ is_owed confirmation (owed_in owed.now) }
 {
-    let mut left = count_in(numbers[0]);
-    let mut at = 1;
-    while 0 < left {
-        if same(confirmation, confirmation_at(numbers, at)) {
-            return true;
-        }
-        at += 3;
-        left -= 1;
-    }
-    false
+    let count = count_in(owed[0]) as usize;
+    owed[1..1 + 3 * count]
+        .chunks_exact(3)
+        .any(|row| same(confirmation, confirmation_at(row, 0)))
 }
 
 pub fn is_full(owed: &[u32; OWED_NUMBERS], confirmation: Confirmation) -> bool
     ensures { result ≡ is_full confirmation (owed_in owed.now) }
 {
-    if owed[0] < MOST {
-        return false;
-    }
-    !is_owed(owed, confirmation)
+    MOST <= owed[0] && !is_owed(owed, confirmation)
 }
 
 // Puts one that is not owed yet behind the others, where there are fewer than eight.
-fn add(numbers: &mut [u32], confirmation: Confirmation)
-    requires numbers_len { length numbers.old ≡ 25 }
-    requires numbers_value { is_owed confirmation (owed_in numbers.old) ≡ false }
-    ensures { numbers.new ≡ kept_owed numbers.old (owing_where_free confirmation (owed_in numbers.old)) }
+fn add(owed: &mut [u32; OWED_NUMBERS], confirmation: Confirmation)
+    requires { is_owed confirmation (owed_in owed.old) ≡ false }
+    ensures { owed.new ≡ kept_owed owed.old (owing_where_free confirmation (owed_in owed.old)) }
 {
-    let count = numbers[0];
+    let count = owed[0];
     if count < MOST {
         let at = 1 + 3 * (count as usize);
-        numbers[at] = head_of(confirmation);
-        numbers[at + 1] = confirmation.version;
-        numbers[at + 2] = confirmation.number;
-        numbers[0] = count + 1;
+        owed[at] = head_of(confirmation);
+        owed[at + 1] = confirmation.version;
+        owed[at + 2] = confirmation.number;
+        owed[0] = count + 1;
     }
 }
 
@@ -101,10 +83,9 @@ pub fn owe(owed: &mut [u32; OWED_NUMBERS], confirmation: Confirmation)
     ensures owed_after { owed_in owed.new ≡ owing_where_free confirmation (owed_in owed.old) }
     ensures owed_after_2 { owed.new ≡ kept_owed owed.old (owing_where_free confirmation (owed_in owed.old)) }
 {
-    if is_owed(owed, confirmation) {
-        return;
+    if !is_owed(owed, confirmation) {
+        add(owed, confirmation);
     }
-    add(owed, confirmation);
 }
 
 pub fn is_owing(owed: &[u32; OWED_NUMBERS]) -> bool
@@ -113,34 +94,14 @@ pub fn is_owing(owed: &[u32; OWED_NUMBERS]) -> bool
     owed[0] != 0
 }
 
-// Of nothing it answers what stands in the place of the first.
-pub fn oldest(owed: &[u32; OWED_NUMBERS]) -> Confirmation
-    ensures { (first : Confirmation) (rest : List Confirmation) → owed_in owed.now ≡ first ∷ rest → result ≡ first }
+pub fn oldest(owed: &[u32; OWED_NUMBERS]) -> Option<Confirmation>
+    ensures value { (first : Confirmation) (rest : List Confirmation) → owed_in owed.now ≡ first ∷ rest → result ≡ Some first }
+    ensures none { owed_in owed.now ≡ [] → result ≡ None }
 {
-    confirmation_at(owed, 1)
-}
-
-// Moves so many numbers three places to the front, over the oldest.
-fn shift(numbers: &mut [u32], count: usize)
-    requires numbers_len { length numbers.old ≡ 25 }
-    requires count_bound { count ≤ 21 }
-    ensures { numbers.new ≡ take 1 numbers.old ++ take count (drop 4 numbers.old) ++ drop (1 + count) numbers.old }
-{
-    let mut done = 0;
-    while done < count {
-        numbers[1 + done] = numbers[4 + done];
-        done += 1;
-    }
-}
-
-fn drop_first(numbers: &mut [u32])
-    requires { length numbers.old ≡ 25 }
-    ensures { numbers.new ≡ kept_owed numbers.old (drop 1 (owed_in numbers.old)) }
-{
-    let count = count_in(numbers[0]);
-    if 0 < count {
-        shift(numbers, 3 * ((count - 1) as usize));
-        numbers[0] = count - 1;
+    if is_owing(owed) {
+        Some(confirmation_at(owed, 1))
+    } else {
+        None
     }
 }
 
@@ -149,19 +110,16 @@ pub fn drop_oldest(owed: &mut [u32; OWED_NUMBERS])
     ensures owed_after { owed_in owed.new ≡ drop 1 (owed_in owed.old) }
     ensures owed_after_2 { owed.new ≡ kept_owed owed.old (drop 1 (owed_in owed.old)) }
 {
-    drop_first(owed);
-}
-
-fn forget_all(numbers: &mut [u32])
-    requires { length numbers.old ≡ 25 }
-    ensures { numbers.new ≡ kept_owed numbers.old [] }
-{
-    numbers[0] = 0;
+    let count = count_in(owed[0]);
+    if 0 < count {
+        owed.copy_within(4..1 + 3 * (count as usize), 1);
+        owed[0] = count - 1;
+    }
 }
 
 pub fn forget(owed: &mut [u32; OWED_NUMBERS])
     ensures owed_after { owed_in owed.new ≡ [] }
     ensures owed_after_2 { owed.new ≡ kept_owed owed.old [] }
 {
-    forget_all(owed);
+    owed[0] = 0;
 }

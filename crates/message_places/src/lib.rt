@@ -12,7 +12,7 @@ pub const OWED_NUMBERS: usize = 25;
 pub const MAIL_OCTETS: usize = 1024;
 
 // The sequence numbers last given, 0 for none.
-#[derive(Clone, Copy)]
+#[derive(Clone, Copy, Default)]
 pub struct Given {
     // one to one
     pub one: u32,
@@ -21,7 +21,7 @@ pub struct Given {
 }
 
 // Whether a message went.
-#[derive(Clone, Copy)]
+#[derive(Clone, Copy, Default)]
 pub struct Went {
     // in this turn
     pub now: bool,
@@ -31,7 +31,7 @@ pub struct Went {
 
 // The outgoing side of the message part: all but what is owed and what is known of the sources. It goes by value between the crates alone; C keeps it in
 // numbers.
-#[derive(Clone, Copy)]
+#[derive(Clone, Copy, Default)]
 pub struct Outgoing {
     pub allowed: Cycle,
     // of our sequence numbers

@@ -12,7 +12,6 @@ ghost use Rattle.message_posting.specs.Sendable.{sendable_by, post_in};
 ghost use Rattle.message_rules.specs.Rules.State.{Sources};
 
 use boundary_answers::{Answer, done, off, refused};
-use boundary_core::phase_of;
 use boundary_places::NUMBERS;
 use frame::Refusal;
 use message::Message;
@@ -52,7 +51,7 @@ pub fn post(
     if message_tests::is_open(before) {
         return refused(Refusal::Waiting);
     }
-    if state_tests::is_off(phase_of(boundary_reading::core_in(core).phase)) {
+    if state_tests::is_off(boundary_reading::core_in(core).phase) {
         return off();
     }
     let waiting = message_sending::handed_in(state, message, octets.len() as u16);

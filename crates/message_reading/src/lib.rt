@@ -11,6 +11,7 @@ use frame_reading::{BSIZE, DNA, SNA, TCD, long_at, word_at};
 use message::{Letter, Message};
 
 // The fields as they stand in the header. It is read once the octets are known to have one, so they are required here.
+#[tactic(auto, unfolding(message_frames::specs::Frames::letter_in))]
 pub fn letter_in(octets: &[u8]) -> Letter
     requires { 64 ≤ length octets.now }
     ensures { result ≡ letter_in octets.now }
@@ -36,5 +37,5 @@ pub fn is_measured(given: usize, letter: Letter) -> bool
 {
     let size = letter.octets as usize;
     let header = frame_data::header_part(given, size);
-    (size <= 1024) & ((64 <= header) & (header <= 96))
+    size <= 1024 && matches!(header, 64..=96)
 }

@@ -17,42 +17,37 @@ use message_places::OWED_NUMBERS;
 fn is_held(owed: &[u32; OWED_NUMBERS], judged: Judged, letter: Letter) -> bool
     ensures { result ≡ is_held_by (owed_in owed.now) judged letter }
 {
-    let message = letter.message;
-    !message_tests::to_all(message.destination)
-        & message_owed::is_full(owed, confirmation_of(judged, letter))
+    !message_tests::to_all(letter.message.destination)
+        && message_owed::is_full(owed, confirmation_of(judged, letter))
 }
 
 // One to all isn't confirmed.
+#[tactic(auto, using(message_owed::specs::Laws::owed_same))]
 fn owe_for(owed: &mut [u32; OWED_NUMBERS], judged: Judged, letter: Letter)
     ensures owed_after { owed_in owed.new ≡ owed_after (owed_in owed.old) judged letter }
     ensures owed_after_2 { owed.new ≡ kept_owed owed.old (owed_after (owed_in owed.old) judged letter) }
 {
-    let message = letter.message;
-    if message_tests::to_all(message.destination) {
-        message_owed::leave(owed);
-        return;
+    if !message_tests::to_all(letter.message.destination) {
+        message_owed::owe(owed, confirmation_of(judged, letter));
     }
-    message_owed::owe(owed, confirmation_of(judged, letter));
 }
 
 // Only a new message is handed over.
 fn answer_to(judged: Judged, letter: Letter) -> Reception
     ensures { result ≡ received_answer (answer_to judged letter) }
 {
-    let message = letter.message;
     match judged {
-        Judged::Abnormal => told(done()),
-        Judged::OtherVersion => told(done()),
-        Judged::Repeat => told(done()),
+        Judged::Abnormal | Judged::OtherVersion | Judged::Repeat => told(done()),
         Judged::New => handed_over(Delivery {
             source: letter.source,
-            message,
+            message: letter.message,
             octets: letter.octets,
         }),
     }
 }
 
 // One whose confirmation would be the ninth changes nothing and isn't handed over: its sender sends it again.
+#[tactic(auto, using(message_owed::specs::Laws::owed_same), unfolding(crate::specs::Receiving::taken_by))]
 pub fn receive(
     owed: &mut [u32; OWED_NUMBERS],
     versions: &mut [u32; 256],
@@ -69,7 +64,6 @@ pub fn receive(
 {
     let judged = message_sources::judge(versions, one_to_one, to_all, letter);
     if is_held(owed, judged, letter) {
-        message_owed::leave(owed);
         return told(done());
     }
     owe_for(owed, judged, letter);

@@ -1,14 +1,13 @@
 -- Order: 11, 12, 13, 10, 1, 2, 3, 4, 5, 6, 7, 14, 15, 8, 9, "the first that applies": what every call on both parts answers, as far as it is a refusal. Assumes
 -- nothing.
-use Rattle.std.specs.Prelude.{◌≡◌, ◌&&◌, ◌||◌}
+use Rattle.std.specs.Prelude.{Option, Some, None, Ok, Err, ◌≡◌, ◌&&◌, ◌||◌}
 use Rattle.laws.specs.Usual.{refl, sym, ap, ◌∙◌, Bool, true, false, cond, not, false≢true, List, ℕ, length, eqb, leb}
 use Rattle.std.proofs.Math.Bool.{and-true, or-false}
 use Rattle.area.specs.Areas.{memory_octets}
 use Rattle.frame.specs.Codes.{code_of, is_known}
 use Rattle.frame.specs.Octets.{word_at}
 use Rattle.frame.specs.Positions.{TCD}
-use Rattle.frame.specs.declared.Coded.{Coded}
-use Rattle.frame.specs.declared.Coded.TheVariants.{Known, Unknown}
+use Rattle.frame.specs.declared.Code.{Code}
 use Rattle.frame.specs.declared.Refusal.{Refusal}
 use Rattle.frame_reading.specs.Reading.{whole, marked, long, fields_of}
 use Rattle.laws.specs.Tests.{first, second}
@@ -29,7 +28,7 @@ use Rattle.refusals.specs.Applies.{cut_applies, mark_applies, length_applies, co
 use Rattle.refusals.proofs.FirstApplies.{by_not, by_and, by_or, fewer, first_applies}
 use Rattle.station.specs.Rules.Hearing.{lent_right}
 use Rattle.station.specs.Rules.State.{is_participating}
-use Rattle.station.specs.declared.Asked.{Asked}
+use Rattle.station.specs.Types.{Asked}
 use Rattle.station.specs.declared.Station.{Station}
 use Rattle.message_refusals.specs.FirstApplies.{chain}
 use Rattle.frame.specs.declared.Refusal.TheVariants as refusals
@@ -37,7 +36,6 @@ use Rattle.message_rules.specs.Rules.Hearing as letters
 use Rattle.station.specs.Rules.Asking as asking
 use Rattle.station.specs.Rules.Calls as base
 use Rattle.station.specs.Rules.Hearing as hearing
-use Rattle.station.specs.declared.Asked.TheVariants as asked
 
 posted_choice : (test : Bool) (refusal : Refusal) (messages : Messages) (mail : List ℕ) (rest : Posting)
     → posted_verdict (need test refusal messages mail rest).answer ≡ cond test (posted_verdict rest.answer) (base.refused_by refusal)
@@ -58,8 +56,8 @@ first_posted both message octets mail = simp (posted_choice, posted_end, same_ch
 
 -- asking: 11 for the mail buffer, else what the base answers
 asked_same : (both : Both) (answer : Asked) (output : List ℕ) → base.asked_verdict (answer_by answer (carried_by both answer output)) ≡ base.asked_verdict answer
-asked_same both (asked.Octets count) output = refl
-asked_same both (asked.Refused refusal) output = refl
+asked_same both (Ok count) output = refl
+asked_same both (Err refusal) output = refl
 
 asked_base : (both : Both) (memory turn output mail : List ℕ) {result : Asking} → AskCases both memory turn output mail result
     → base.asked_verdict result.answer ≡ cond (mail_right mail) (base.verdict both.ring (base.ask memory turn output)) (base.refused_by refusals.Buffer)
@@ -112,9 +110,9 @@ letter_verdict station messages given letter =
     ∙ ap (λ (v : base.Verdict). cond (not (letters.is_stranger station letter)) v (base.refused_by refusals.Stranger))
     (delivered_unrefused station messages given letter))))
 
-unknown_of : (coded : Coded) → is_known coded ≡ false → coded ≡ Unknown
-unknown_of (Known code) e = absurd (false≢true (sym e))
-unknown_of Unknown e = refl
+unknown_of : (coded : Option Code) → is_known coded ≡ false → coded ≡ None
+unknown_of (Some code) e = absurd (false≢true (sym e))
+unknown_of None e = refl
 
 module _ (both : Both) (octets memory assembly : List ℕ) (lent : lent_right memory assembly ≡ true) (one : whole octets ≡ true) (two : marked octets ≡ true)
     (three : long octets ≡ true) where
@@ -122,7 +120,7 @@ module _ (both : Both) (octets memory assembly : List ℕ) (lent : lent_right me
       → received_verdict (letters.message_heard both.ring both.messages octets).answer ≡ first_applying both (hear octets memory assembly)
   unfolding fields_of letter_in
   first_letter message =
-      let unknown : code_of (word_at octets TCD) ≡ Unknown = unknown_of (code_of (word_at octets TCD)) (message_unknown (word_at octets TCD) message) in
+      let unknown : code_of (word_at octets TCD) ≡ None = unknown_of (code_of (word_at octets TCD)) (message_unknown (word_at octets TCD) message) in
       let memory_right = first (eqb (length memory) memory_octets) _ lent in
       let assembly_right = second (eqb (length memory) memory_octets) _ lent in
       let least = first (leb 64 (length octets)) _ one in

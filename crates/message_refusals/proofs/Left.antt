@@ -6,26 +6,25 @@ use mathlib.Core.List.{head-eq_of_cons-eq, tail-eq_of_cons-eq}
 use Rattle.frame.specs.declared.Refusal.{Refusal}
 use Rattle.laws.specs.Tests.{first}
 use Rattle.message.specs.declared.Letter.{Letter}
-use Rattle.message_refusals.specs.Left.{both_stopped, SparedBoth, same, turned_off, LeftBoth}
+use Rattle.message_refusals.specs.Left.{SparedBoth, same, turned_off, LeftBoth}
 use Rattle.message_rules.proofs.Letters.LetterAccepted.{judged_unrefused}
 use Rattle.message_frames.specs.Frames.{letter_in}
 use Rattle.message_rules.specs.Rules.Again.{turned}
-use Rattle.message_rules.specs.Rules.Calls.{Both, Call, start, stop, tick, post, hear, ask, lent, lent_after, after, verdict, posted_verdict, received_verdict, is_done, takes, turns_off, Hearing, Asking, frame_heard, carried_by, frame_asked}
+use Rattle.message_rules.specs.Rules.Calls.{Both, Call, start, stop, tick, post, hear, ask, verdict, posted_verdict, received_verdict, is_done, takes, turns_off, Hearing, Asking, frame_heard, carried_by, frame_asked}
 use Rattle.message_rules.specs.Rules.Confirming.{is_cyclic_answer, after_frame}
 use Rattle.message_rules.specs.Rules.Posting.{Posting}
-use Rattle.message_rules.specs.Rules.State.{Messages, no_messages}
+use Rattle.message_rules.specs.Rules.State.{Messages}
 use Rattle.refusals.specs.Applies.{applies}
 use Rattle.refusals.proofs.FirstFound.{refused_first}
 use Rattle.station.specs.Outcomes.SwitchCases.{SwitchCases, refuses, does}
 use Rattle.station.proofs.Outcomes.SwitchCases.{start_cases, stop_cases}
 use Rattle.station.specs.Panel.History.{participates, taking_by, passed_by}
-use Rattle.station.specs.Rules.State.{is_off, is_participating, holds, stopped}
+use Rattle.station.specs.Rules.State.{is_off, is_participating, holds}
 use Rattle.station.specs.declared.Heard.{Heard}
 use Rattle.station.specs.declared.Station.{Station}
 use Rattle.message_rules.proofs.Outcomes as outcomes_told
 use Rattle.station.proofs.Outcomes.AskCases as on_asking_told
 use Rattle.station.proofs.RefusedLeft as base_left_told
-use Rattle.frame.specs.declared.Refusal.TheVariants as refusals
 use Rattle.message_rules.specs.Rules.Hearing as letters
 use Rattle.message_rules.specs.Outcomes as outcomes
 use Rattle.station.specs.Outcomes.AskCases as on_asking

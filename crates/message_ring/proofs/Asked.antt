@@ -1,5 +1,5 @@
 -- An asking in which a message goes is nothing to the ring parts. Assumes nothing.
-use Rattle.std.specs.Prelude.{◌≡◌}
+use Rattle.std.specs.Prelude.{Ok, ◌≡◌}
 use Rattle.laws.specs.Usual.{[], ap, ◌∙◌, true, List, ℕ}
 use Rattle.frame_reading.specs.Reading.{read_of}
 use Rattle.message.specs.declared.Letter.{Letter}
@@ -17,7 +17,6 @@ use Rattle.ring.specs.Events.{Lent}
 use Rattle.station.specs.Rules.State.{is_participating}
 use Rattle.station.specs.Rules.Asking as asking
 use Rattle.station.specs.Rules.Hearing as hearing
-use Rattle.station.specs.declared.Asked.TheVariants as answers
 
 module _ (sender : Both) (memory turn output mail : List ℕ) (right : asking.lent_right memory turn output ≡ true) (lends : mail_right mail ≡ true)
     (now : goes sender.ring sender.messages ≡ true) where
@@ -26,7 +25,7 @@ module _ (sender : Both) (memory turn output mail : List ℕ) (right : asking.le
 
   -- a participant's ring part stays
   pub letter_handed : (listener : Both) (lent : Lent) → hearing.lent_right lent.memory lent.assembly ≡ true → is_participating listener.ring.phase ≡ true
-      → (handed listener lent (answers.Octets (whole_length letter)) (output_of letter mail output)).ring ≡ listener.ring
+      → (handed listener lent (Ok (whole_length letter)) (output_of letter mail output)).ring ≡ listener.ring
   letter_handed listener lent lends_right inside =
       ap (λ (o : List ℕ). (hear_of listener o lent.memory lent.assembly).both.ring) (octets_are sender memory turn output mail right lends now)
       ∙ letter_ring listener (frame_of letter mail) lent.memory lent.assembly (is_letter_lem sender memory turn output mail right lends now lent.memory lent.assembly lends_right) inside

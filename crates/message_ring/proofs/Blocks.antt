@@ -1,9 +1,8 @@
 -- An asking at a station with messages where no message goes: to the ring parts it is the asking at a ring of the base. Assumes nothing.
-use Rattle.std.specs.Prelude.{◌≡◌, ◌+◌, ◌≤◌}
+use Rattle.std.specs.Prelude.{Ok, Err, ◌≡◌, ◌+◌, ◌≤◌}
 use Rattle.laws.specs.Usual.{refl, sym, ap, ◌∙◌, Bool, true, false, cond, List, ℕ, arith, length, take}
 use Rattle.frame.specs.declared.Fields.{Fields}
 use Rattle.frame_reading.specs.Reading.{is_station, read_of, data_size}
-use Rattle.frame_reading.specs.declared.Read.TheVariants.{Frame}
 use Rattle.frame_writing.specs.Writing.{whole_length}
 use Rattle.message_rules.proofs.Carried.CarriedRead.{Plain, plain_of}
 use Rattle.message_rules.specs.Carried.Wrote.{Wrote}
@@ -16,11 +15,10 @@ use Rattle.ring.specs.Member.{InRing}
 use Rattle.ring.proofs.Steps.{sends, cyclic_is, idle_answer, asked_answer, asked_read}
 use Rattle.settling.specs.Ring.{◌∈◌, next}
 use Rattle.station.specs.Rules.State.{holds}
-use Rattle.station.specs.declared.Asked.{Asked}
+use Rattle.station.specs.Types.{Asked}
 use Rattle.frame.specs.declared.Refusal.TheVariants as refusals
 use Rattle.ring.specs.Events as base
 use Rattle.station.specs.Rules.Asking as asking
-use Rattle.station.specs.declared.Asked.TheVariants as answers
 
 -- the sender, a station of the ring
 module _ (numbers : List ℕ) (next_in_lem : (x : ℕ) → x ∈ numbers → next numbers x ∈ numbers) (are_stations : (x : ℕ) → x ∈ numbers → is_station x ≡ true)
@@ -43,18 +41,18 @@ module _ (numbers : List ℕ) (next_in_lem : (x : ℕ) → x ∈ numbers → nex
   long_is = rw in_ring.participates
 
   module _ (held : holds sender.ring ≡ true) where
-    read : read_of octets ≡ Frame frame
+    read : read_of octets ≡ Ok frame
     read = asked_read numbers next_in_lem are_stations who member sender.ring in_ring memory turn output right held
 
-    answer_is : wrote_base.answer ≡ answers.Octets (whole_length frame)
+    answer_is : wrote_base.answer ≡ Ok (whole_length frame)
     answer_is = asked_answer numbers next_in_lem are_stations who member sender.ring in_ring memory turn output right held
 
     plain : Plain octets frame
     plain = plain_of octets frame read (cyclic_is numbers next_in_lem are_stations who member sender.ring in_ring) long_is
 
     wrote : Wrote octets
-        (take (carried_by sender (answers.Octets (whole_length frame)) wrote_base.output).count
-        (carried_by sender (answers.Octets (whole_length frame)) wrote_base.output).output)
+        (take (carried_by sender (Ok (whole_length frame)) wrote_base.output).count
+        (carried_by sender (Ok (whole_length frame)) wrote_base.output).output)
     wrote =
         let whole : whole_length frame ≡ length octets = ap (λ (n : ℕ). 64 + n) size_is ∙ plain.header in
         let least : 64 ≤ whole_length frame = omega arith in
@@ -80,7 +78,7 @@ module _ (numbers : List ℕ) (next_in_lem : (x : ℕ) → x ∈ numbers → nex
 
   -- nobody but a holder has a frame due
   module _ (idle : holds sender.ring ≡ false) where
-    idle_is : wrote_base.answer ≡ answers.Refused refusals.NotDue
+    idle_is : wrote_base.answer ≡ Err refusals.NotDue
     idle_is = idle_answer numbers next_in_lem are_stations who member sender.ring in_ring memory turn output right idle
 
     gives_idle : given_by (block_asked sender memory turn output).answer (block_asked sender memory turn output).output

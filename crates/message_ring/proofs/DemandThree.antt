@@ -1,13 +1,12 @@
 -- Demand 3 of the ring of stations with messages. Assumes nothing.
-use Rattle.std.specs.Prelude.{◌≡◌, ◌&&◌}
+use Rattle.std.specs.Prelude.{Ok, Err, ◌≡◌, ◌&&◌}
 use Rattle.laws.specs.Usual.{refl, sym, ap, ◌∙◌, true, List, ℕ, arith, length, take, eqb, leb}
 use Rattle.area.specs.Areas.{memory_octets}
 use Rattle.frame.specs.Codes.{is_token}
 use Rattle.frame.specs.declared.Fields.{Fields}
 use Rattle.frame.specs.declared.Refusal.{Refusal}
 use Rattle.frame_reading.specs.Reading.{read_of}
-use Rattle.frame_reading.specs.declared.Read.{Read}
-use Rattle.frame_reading.specs.declared.Read.TheVariants.{Frame, Refused}
+use Rattle.frame_reading.specs.Reading.{Read}
 use Rattle.laws.specs.Tests.{first}
 use Rattle.message_rules.proofs.Ring.Buffers.{letter_unread}
 use Rattle.message_rules.proofs.Ring.Reached.{ring_reached}
@@ -28,29 +27,28 @@ use Rattle.settling.proofs.First.{first_exists, agreed?}
 use Rattle.settling.specs.First.{FirstAgreement}
 use Rattle.settling.specs.Steps.{EachFinds}
 use Rattle.station.specs.Rules.Calls.{unrefused}
-use Rattle.station.specs.declared.Asked.{Asked}
+use Rattle.station.specs.Types.{Asked}
 use Rattle.station.specs.declared.Phase.TheVariants.{Participating}
 use Rattle.message_rules.specs.Outcomes as outcomes
 use Rattle.station.proofs.Outcomes.AskCases as on_asking
 use Rattle.station.proofs.Outcomes.HearCases as on_hearing
 use Rattle.station.specs.Rules.Asking as asking
-use Rattle.station.specs.declared.Asked.TheVariants as answers
 
 pub left_by_calls : {octets : List ℕ} {both : Both} → LastCall octets both → Reachable both
 left_by_calls (sent before memory turn output mail count reached answer written) = called (ask memory turn output mail) reached tt
 left_by_calls {octets} (heard before memory assembly reached typed accepted) = called (hear octets memory assembly) reached typed
 
 -- what an asking wrote, where it wrote the base's frame
-asked_octets : (answer : Asked) (both : Both) (output : List ℕ) (count : ℕ) → answer_by answer (carried_by both answer output) ≡ answers.Octets count
-    → (other : ℕ) × (answer ≡ answers.Octets other)
-asked_octets (answers.Octets other) both output count e = (other, refl)
-asked_octets (answers.Refused refusal) both output count e = let z : ◌≡◌ {A = ℕ} 0 1 = cc in absurd (omega arith)
+asked_octets : (answer : Asked) (both : Both) (output : List ℕ) (count : ℕ) → answer_by answer (carried_by both answer output) ≡ Ok count
+    → (other : ℕ) × (answer ≡ Ok other)
+asked_octets (Ok other) both output count e = (other, refl)
+asked_octets (Err refusal) both output count e = let z : ◌≡◌ {A = ℕ} 0 1 = cc in absurd (omega arith)
 
 -- octets that are read are not refused
-read_once : {read : Read} {frame : Fields} {refusal : Refusal} → read ≡ Frame frame → read ≡ Refused refusal → ⊥
+read_once : {read : Read} {frame : Fields} {refusal : Refusal} → read ≡ Ok frame → read ≡ Err refusal → ⊥
 read_once p q = let z : ◌≡◌ {A = ℕ} 0 1 = cc in omega arith
 
-module _ (octets : List ℕ) (token : Fields) (read : read_of octets ≡ Frame token) (is_token_lem : is_token token.code ≡ true) where
+module _ (octets : List ℕ) (token : Fields) (read : read_of octets ≡ Ok token) (is_token_lem : is_token token.code ≡ true) where
   -- a station that heard the token frame has restarted its watch, as one of the base
   heard_restarts : {before : Both} {memory assembly : List ℕ} {result : Hearing} → outcomes.HearCases before octets memory assembly result
       → received_verdict result.answer ≡ unrefused → result.both.ring.phase ≡ Participating → result.both.ring.elapsed.0 ≡ 0
@@ -61,7 +59,7 @@ module _ (octets : List ℕ) (token : Fields) (read : read_of octets ≡ Frame t
 
   -- and so has one that sent it; a message is no token frame
   sent_restarts : {before : Both} {memory turn output mail : List ℕ} {count : ℕ} {result : Asking} → outcomes.AskCases before memory turn output mail result
-      → result.answer ≡ answers.Octets count → take count result.output ≡ octets → result.both.ring.phase ≡ Participating
+      → result.answer ≡ Ok count → take count result.output ≡ octets → result.both.ring.phase ≡ Participating
       → result.both.ring.elapsed.0 ≡ 0
   sent_restarts (outcomes.refuses wrong) a w p = let z : ◌≡◌ {A = ℕ} 0 1 = cc in absurd (omega arith)
   sent_restarts {before} {memory} {turn} {output} {mail} {count} (outcomes.sends right lent now) a w p =
@@ -74,7 +72,7 @@ module _ (octets : List ℕ) (token : Fields) (read : read_of octets ≡ Frame t
       let base = asking.ask_of before.ring memory turn output in
       asked_zero (on_asking.ask_cases before.ring memory turn output) (asked_octets base.answer before base.output _ a).1 p
 
-restarts : {octets : List ℕ} {both : Both} (token : Fields) → read_of octets ≡ Frame token → is_token token.code ≡ true → LastCall octets both
+restarts : {octets : List ℕ} {both : Both} (token : Fields) → read_of octets ≡ Ok token → is_token token.code ≡ true → LastCall octets both
     → both.ring.phase ≡ Participating → both.ring.elapsed.0 ≡ 0
 restarts {octets} token read is_token_lem (sent before memory turn output mail count reached answer written) p =
     sent_restarts octets token read is_token_lem (outcomes_told.ask_cases before memory turn output mail) answer written p

@@ -1,13 +1,12 @@
 -- A ring of stations with messages that is in order, and every list of events that can come to it, settles: each event is to the ring parts an event of a ring
 -- of the base, or nothing. Assumes nothing.
-use Rattle.std.specs.Prelude.{◌≡◌, ◌∷◌}
+use Rattle.std.specs.Prelude.{Ok, ◌≡◌, ◌∷◌}
 use Rattle.laws.specs.Usual.{[], refl, sym, ap, subst, ◌∙◌, Bool, true, false, cond, false≢true, List, ℕ, eqb}
 use Rattle.std.proofs.Math.Decide.{ℕ_discrete}
 use Rattle.std.proofs.Common.{eq-eqb, ne_eqb}
 use Rattle.frame.specs.declared.Fields.{Fields}
 use Rattle.frame.specs.declared.Refusal.{Refusal}
 use Rattle.frame_reading.specs.Reading.{is_station, read_of}
-use Rattle.frame_reading.specs.declared.Read.TheVariants.{Frame}
 use Rattle.message_rules.proofs.Ring.Buffers.{read_frame}
 use Rattle.message_rules.proofs.Ring.RingPart.{letter_ring}
 use Rattle.message_refusals.specs.Left.{SparedBoth, same, turned_off}
@@ -22,7 +21,7 @@ use Rattle.misses.specs.MissHistory.{Brought}
 use Rattle.ring.specs.Events.{Stations, Lent}
 use Rattle.ring.specs.Member.{InRing}
 use Rattle.ring.proofs.Settles.{kept, does}
-use Rattle.ring.proofs.Steps.{Ok}
+use Rattle.ring.proofs.Steps.{KeptRing}
 use Rattle.settling.proofs.Counted.{counting_settles}
 use Rattle.settling.specs.Counting.{Does, passed, silent, nothing, Orderly, CountingSettles, AllName}
 use Rattle.settling.specs.First.{FirstAgreement}
@@ -36,7 +35,7 @@ use Rattle.ring.specs.Events as base
 use Rattle.station.specs.Rules.Calls as station
 
 -- what is kept of a ring is kept of one with the same stations at its numbers
-ok_same : {numbers : List ℕ} {one other : Stations} → ((n : ℕ) → n ∈ numbers → other n ≡ one n) → Ok numbers one → Ok numbers other
+ok_same : {numbers : List ℕ} {one other : Stations} → ((n : ℕ) → n ∈ numbers → other n ≡ one n) → KeptRing numbers one → KeptRing numbers other
 ok_same {numbers} same_at ok = record {
   each = λ n m. subst (InRing numbers n) (sym (same_at n m)) (ok.each n m);
   watch = λ n k p q.
@@ -69,7 +68,7 @@ module _ {numbers : List ℕ} (ascending : Ascending numbers) (are_stations : (n
   next_in_lem : (n : ℕ) → n ∈ numbers → next numbers n ∈ numbers
   next_in_lem = (laws_of numbers ascending).2.stays_in
 
-  module _ (boths : Boths) (ok : Ok numbers (rings_of boths)) where
+  module _ (boths : Boths) (ok : KeptRing numbers (rings_of boths)) where
     inside : (n : ℕ) → n ∈ numbers → is_participating (boths n).ring.phase ≡ true
     inside n m = ap is_participating (ok.each n m).participates
 
@@ -131,10 +130,10 @@ module _ {numbers : List ℕ} (ascending : Ascending numbers) (are_stations : (n
             ∙ block_gives numbers next_in_lem are_stations who can.0 (boths who) (ok.each who can.0) memory turn output can.1)
             (λ n. refl) block_left (does ascending are_stations (rings_of boths) plain ok can_plain)
 
-      asked_kept : Ok numbers (rings_of (after_event boths event))
+      asked_kept : KeptRing numbers (rings_of (after_event boths event))
       asked_kept = by (goes (boths who).ring (boths who).messages) refl
         where
-          by : (now : Bool) → goes (boths who).ring (boths who).messages ≡ now → Ok numbers (rings_of (after_event boths event))
+          by : (now : Bool) → goes (boths who).ring (boths who).messages ≡ now → KeptRing numbers (rings_of (after_event boths event))
           by true e = ok_same (letter_left e) ok
           by false e = ok_same (block_left e) (kept ascending are_stations (rings_of boths) (plain e) ok (can_plain e))
 
@@ -164,7 +163,7 @@ module _ {numbers : List ℕ} (ascending : Ascending numbers) (are_stations : (n
 
     -- a call that leaves the ring part keeps the ring, and does nothing to the views
     module _ (who : ℕ) (call : Call) (member : who ∈ numbers) (stays : (after (boths who) call).ring ≡ (boths who).ring) where
-      none_kept : Ok numbers (rings_of (after_event boths (stray who call)))
+      none_kept : KeptRing numbers (rings_of (after_event boths (stray who call)))
       none_kept = ok_same (stray_none who call member stays) ok
 
       none_does : Does both_counting numbers boths (stray who call)
@@ -173,7 +172,7 @@ module _ {numbers : List ℕ} (ascending : Ascending numbers) (are_stations : (n
     -- and so does one that is a stray of the base
     module _ (who : ℕ) (call : Call) (member : who ∈ numbers) (plain : station.Call)
         (same_left : (after (boths who) call).ring ≡ station.after (boths who).ring plain) (can : base.Stray numbers (boths who).ring plain) where
-      base_kept : Ok numbers (rings_of (after_event boths (stray who call)))
+      base_kept : KeptRing numbers (rings_of (after_event boths (stray who call)))
       base_kept =
           ok_same (stray_same who call member plain same_left) (kept ascending are_stations (rings_of boths) (base.stray who plain) ok (member, can))
 
@@ -191,11 +190,11 @@ module _ {numbers : List ℕ} (ascending : Ascending numbers) (are_stations : (n
         by (same p) = ap (λ (b : Both). b.ring) p
         by (turned_off six out p) = absurd (false≢true (sym out ∙ inside who member))
 
-    frame_same : (who : ℕ) (octets memory assembly : List ℕ) (fields : Fields) → read_of octets ≡ Frame fields
+    frame_same : (who : ℕ) (octets memory assembly : List ℕ) (fields : Fields) → read_of octets ≡ Ok fields
         → (after (boths who) (hear octets memory assembly)).ring ≡ station.after (boths who).ring (station.hear octets memory assembly)
     frame_same who octets memory assembly fields read = rw (read_frame octets memory assembly fields read, after)
 
-    stray_kept : (who : ℕ) (call : Call) → who ∈ numbers → Stray numbers (boths who) call → Ok numbers (rings_of (after_event boths (stray who call)))
+    stray_kept : (who : ℕ) (call : Call) → who ∈ numbers → Stray numbers (boths who) call → KeptRing numbers (rings_of (after_event boths (stray who call)))
     stray_kept who call member (refused refusal e) = none_kept who call member (refused_stays who member call refusal e)
     stray_kept who call member (starts settings allowance) = base_kept who call member (station.start settings) refl (base.starts settings)
     stray_kept who call member (posts message octets mail) = none_kept who call member refl
@@ -216,22 +215,22 @@ module _ {numbers : List ℕ} (ascending : Ascending numbers) (are_stations : (n
         (base.harmless octets memory assembly fields read plain from)
 
   -- every event that can come keeps what is kept of the ring parts, and does one of the three to the views
-  both_kept : (boths : Boths) (event : Event) → Ok numbers (rings_of boths) → CanCome numbers boths event → Ok numbers (rings_of (after_event boths event))
+  both_kept : (boths : Boths) (event : Event) → KeptRing numbers (rings_of boths) → CanCome numbers boths event → KeptRing numbers (rings_of (after_event boths event))
   both_kept boths (asked who memory turn output mail lent) ok can = asked_kept boths ok who memory turn output mail lent can
   both_kept boths ticked ok can = kept ascending are_stations (rings_of boths) base.ticked ok can
   both_kept boths (stray who call) ok can = stray_kept boths ok who call can.0 can.1
 
-  both_does : (boths : Boths) (event : Event) → Ok numbers (rings_of boths) → CanCome numbers boths event → Does both_counting numbers boths event
+  both_does : (boths : Boths) (event : Event) → KeptRing numbers (rings_of boths) → CanCome numbers boths event → Does both_counting numbers boths event
   both_does boths (asked who memory turn output mail lent) ok can = asked_does boths ok who memory turn output mail lent can
   both_does boths ticked ok can =
       does_same boths ticked base.ticked refl refl (λ n. refl) (λ n m. refl) (does ascending are_stations (rings_of boths) base.ticked ok can)
   both_does boths (stray who call) ok can = stray_does boths ok who call can.0 can.1
 
-  orderly : Orderly both_counting numbers (λ (boths : Boths). Ok numbers (rings_of boths)) (CanCome numbers)
+  orderly : Orderly both_counting numbers (λ (boths : Boths). KeptRing numbers (rings_of boths)) (CanCome numbers)
   orderly = record { within = λ boths ok n m. (ok.each n m).view; keeps = both_kept; does = both_does }
 
   -- `before` is the part "up to the first time that they all name one holder, or to its end if they never do", and `later` the rest.
-  pub settles_from_both : {boths : Boths} {events before later : List Event} → Ok numbers (rings_of boths)
+  pub settles_from_both : {boths : Boths} {events before later : List Event} → KeptRing numbers (rings_of boths)
       → EachFinds after_event (CanCome numbers) boths events → FirstAgreement after_event (AllName both_counting numbers) boths events before later
       → CountingSettles both_counting numbers boths before later
   settles_from_both begins come first = counting_settles orderly ascending begins come first

@@ -1,6 +1,6 @@
 -- Demand 3 with messages: its premises, the disturbed ring as the paper takes it, and its conclusion, which is that of any ring of which passes and silences
 -- are counted (`CountingSettles` of settling).
-use Rattle.std.specs.Prelude.{◌≡◌}
+use Rattle.std.specs.Prelude.{Ok, ◌≡◌}
 use Rattle.laws.specs.Usual.{true, List, ℕ, take}
 use Rattle.frame.specs.Codes.{is_token}
 use Rattle.frame_reading.specs.Reading.{read_of}
@@ -12,14 +12,13 @@ use Rattle.settling.specs.Counting.{CountingSettles}
 use Rattle.settling.specs.Ring.{◌∈◌, Stations as Ascending}
 use Rattle.station.specs.Rules.Calls.{unrefused}
 use Rattle.station.specs.Rules.Waits.{counts_as}
-use Rattle.station.specs.Types.{Fields, Frame}
-use Rattle.station.specs.declared.Asked.TheVariants.{Octets}
+use Rattle.station.specs.Types.{Fields}
 use Rattle.station.specs.declared.Phase.TheVariants.{Participating}
 
 -- "brought there by whatever calls since off"; "each station's last call sent or heard the same token frame unrefused"
 pub data LastCall (octets : List ℕ) : Both → Type 0 where
   sent : (before : Both) (memory turn output mail : List ℕ) (count : ℕ) → Reachable before
-      → (ask_of before memory turn output mail).answer ≡ Octets count → take count (ask_of before memory turn output mail).output ≡ octets
+      → (ask_of before memory turn output mail).answer ≡ Ok count → take count (ask_of before memory turn output mail).output ≡ octets
       → LastCall octets (after before (ask memory turn output mail))
   heard : (before : Both) (memory assembly : List ℕ) → Reachable before → Typed (hear octets memory assembly)
       → verdict before (hear octets memory assembly) ≡ unrefused → LastCall octets (after before (hear octets memory assembly))
@@ -31,7 +30,7 @@ pub record Disturbed (numbers : List ℕ) (boths : Boths) : Type 0 where
   -- "all of which have just sent or heard one token frame"
   pub octets : List ℕ
   pub token : Fields
-  pub is_read : read_of octets ≡ Frame token
+  pub is_read : read_of octets ≡ Ok token
   pub is_token_lem : is_token token.code ≡ true
   pub last : (number : ℕ) → number ∈ numbers → LastCall octets (boths number)
   -- each station has its number

@@ -1,6 +1,6 @@
 -- Paper 01, "The ring in demand 3", for stations with messages (paper 02, E2): an event's asking may write a message, which all others hear; a stray may be a
 -- handing in, or a message heard by one station alone. Words in quotes are the papers'.
-use Rattle.std.specs.Prelude.{◌≡◌}
+use Rattle.std.specs.Prelude.{Ok, Err, ◌≡◌}
 use Rattle.laws.specs.Usual.{[], Bool, true, false, cond, List, ℕ, take, eqb}
 use Rattle.frame.specs.Codes.{is_cyclic}
 use Rattle.frame.specs.declared.Code.TheVariants.{Request}
@@ -18,12 +18,11 @@ use Rattle.settling.specs.Ring.{◌∈◌}
 use Rattle.station.specs.Rules.Calls.{refused_by}
 use Rattle.station.specs.Rules.State.{holds}
 use Rattle.station.specs.Rules.Waits.{counts_as}
-use Rattle.station.specs.Types.{Fields, Refusal, Frame}
-use Rattle.station.specs.declared.Asked.{Asked}
+use Rattle.station.specs.Types.{Fields, Refusal}
+use Rattle.station.specs.Types.{Asked}
 use Rattle.station.specs.declared.Settings.{Settings}
 use Rattle.station.specs.Rules.Asking as asking
 use Rattle.station.specs.Rules.Hearing as hearing
-use Rattle.station.specs.declared.Asked.TheVariants as answers
 
 -- the stations of a ring, by their numbers, and their ring parts
 abbrev pub Boths : Type 0
@@ -41,8 +40,8 @@ pub data Event : Type 0 where
 
 -- "Refused, nobody is handed anything."
 abbrev pub handed : Both → Lent → Asked → List ℕ → Both
-handed both lent (answers.Octets count) output = (hear_of both (take count output) lent.memory lent.assembly).both
-handed both lent (answers.Refused refusal) output = both
+handed both lent (Ok count) output = (hear_of both (take count output) lent.memory lent.assembly).both
+handed both lent (Err refusal) output = both
 
 -- the stations after an event: "Each call gets the state that its station's last call left"
 abbrev pub after_event : Boths → Event → Boths
@@ -95,7 +94,7 @@ pub data Stray (numbers : List ℕ) (both : Both) : Call → Type 0 where
   starts : (settings : Settings) (allowance : Allowance) → Stray numbers both (start settings allowance)
   posts : (message : Message) (octets mail : List ℕ) → Stray numbers both (post message octets mail)
   letters : (octets memory assembly : List ℕ) → is_letter octets memory assembly ≡ true → Stray numbers both (hear octets memory assembly)
-  harmless : (octets memory assembly : List ℕ) (fields : Fields) → read_of octets ≡ Frame fields → is_cyclic fields.code ≡ false
+  harmless : (octets memory assembly : List ℕ) (fields : Fields) → read_of octets ≡ Ok fields → is_cyclic fields.code ≡ false
       → (fields.code ≡ Request → (fields.source ∈ numbers) × ((counts_as fields.watch).0 ≡ both.ring.own.watch.0))
       → Stray numbers both (hear octets memory assembly)
 

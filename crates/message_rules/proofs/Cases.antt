@@ -8,7 +8,6 @@ use Rattle.message.specs.declared.Judged.{Judged}
 use Rattle.message.specs.declared.Judged.TheVariants.{Abnormal, OtherVersion, Repeat, New}
 use Rattle.message.specs.declared.Letter.{Letter}
 use Rattle.message.specs.declared.Mail.TheVariants.{Waiting, Unconfirmed, Confirmed, Failed}
-use Rattle.message.specs.declared.Message.{Message}
 use Rattle.message_rules.specs.Rules.Again.{is_due, slot_ticked, slot_taken, slot_answered, number_after}
 use Rattle.message_rules.specs.Rules.Confirming.{owing, is_full}
 use Rattle.message_rules.specs.Rules.Cycle.{cycle_lets}

@@ -1,6 +1,6 @@
 -- The outcomes of hearing a message, of handing one in and of asking, each with what led there and what is left: whatever is proved of these calls goes by
 -- these. Assumes nothing.
-use Rattle.std.specs.Prelude.{◌≡◌, ◌&&◌}
+use Rattle.std.specs.Prelude.{Err, ◌≡◌, ◌&&◌}
 use Rattle.laws.specs.Usual.{refl, Bool, true, false, cond, not, List, ℕ, length}
 use Rattle.copying.specs.Pasted.{pasted}
 use Rattle.laws.specs.Tests.{first, second}
@@ -22,7 +22,6 @@ use Rattle.message.specs.declared.Posted.TheVariants as posted
 use Rattle.message.specs.declared.Received.TheVariants as received
 use Rattle.station.specs.Rules.Asking as asking
 use Rattle.station.specs.Rules.Calls as base
-use Rattle.station.specs.declared.Asked.TheVariants as asked
 use Rattle.station.specs.declared.Heard.TheVariants as heard
 use Rattle.message_rules.specs.Rules.Calls as calls
 use Rattle.message_rules.specs.Rules.Hearing as letters
@@ -120,7 +119,7 @@ module _ (both : Both) (memory turn output mail : List ℕ) where
           → AskCases both memory turn output mail
           (cond right
           (cond now (letter_asked both turn output mail) (block_asked both memory turn output))
-          (record { both = both; answer = asked.Refused refusals.Buffer; turn = turn; output = output }))
+          (record { both = both; answer = Err refusals.Buffer; turn = turn; output = output }))
       by false r now g = refuses r
       by true r true g = sends r (first (asking.lent_right memory turn output) _ g) (second (asking.lent_right memory turn output) _ g)
       by true r false g = blocks r g

@@ -2,7 +2,6 @@
 -- judged, what is then known and owed, and what handing one in answers. Assumes nothing.
 use Rattle.std.specs.Prelude.{◌∷◌}
 use Rattle.laws.specs.Usual.{[], Bool, List, ℕ, replicate}
-use Rattle.message.specs.Codes.{to_all}
 use Rattle.message.specs.declared.Confirmation.{Confirmation}
 use Rattle.message.specs.declared.Judged.TheVariants.{New}
 use Rattle.message.specs.declared.Letter.{Letter}

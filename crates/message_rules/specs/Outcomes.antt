@@ -1,6 +1,6 @@
 -- The outcomes of hearing a message, of handing one in and of asking, each with what led there and what is left: whatever is proved of these calls goes by
 -- these. Assumes nothing.
-use Rattle.std.specs.Prelude.{◌≡◌, ◌&&◌}
+use Rattle.std.specs.Prelude.{Err, ◌≡◌, ◌&&◌}
 use Rattle.laws.specs.Usual.{true, false, List, ℕ, length}
 use Rattle.copying.specs.Pasted.{pasted}
 use Rattle.frame.specs.declared.Refusal.{Refusal}
@@ -21,7 +21,6 @@ use Rattle.message.specs.declared.Posted.TheVariants as posted
 use Rattle.message.specs.declared.Received.TheVariants as received
 use Rattle.station.specs.Rules.Asking as asking
 use Rattle.station.specs.Rules.Calls as base
-use Rattle.station.specs.declared.Asked.TheVariants as asked
 use Rattle.station.specs.declared.Heard.TheVariants as heard
 use Rattle.message_rules.specs.Rules.Calls as calls
 
@@ -76,7 +75,7 @@ pub data PostCases (station : Station) (messages : Messages) (message : Message)
 -- what asking leaves: 11, a message that goes, or what the base writes or refuses
 pub data AskCases (both : Both) (memory turn output mail : List ℕ) : Asking → Type 0 where
   refuses : mail_right mail ≡ false → AskCases both memory turn output mail
-      (record { both = both; answer = asked.Refused refusals.Buffer; turn = turn; output = output })
+      (record { both = both; answer = Err refusals.Buffer; turn = turn; output = output })
   sends : mail_right mail ≡ true → asking.lent_right memory turn output ≡ true → goes both.ring both.messages ≡ true
       → AskCases both memory turn output mail (letter_asked both turn output mail)
   blocks : mail_right mail ≡ true → (asking.lent_right memory turn output && goes both.ring both.messages) ≡ false

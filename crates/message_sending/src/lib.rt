@@ -18,10 +18,8 @@ use message_places::{Outgoing, Went};
 pub fn ticked(outgoing: Outgoing) -> Outgoing
     ensures { (owed : List Confirmation) (sources : Sources) → messages_of result owed sources ≡ ticked_of (messages_of outgoing owed sources) }
 {
-    let slot = outgoing.slot;
-    let counted = message_slots::ticked(slot);
     Outgoing {
-        slot: counted,
+        slot: message_slots::ticked(outgoing.slot),
         ..outgoing
     }
 }
@@ -30,15 +28,12 @@ pub fn ticked(outgoing: Outgoing) -> Outgoing
 pub fn turned(outgoing: Outgoing) -> Outgoing
     ensures { (owed : List Confirmation) (sources : Sources) → messages_of result owed sources ≡ turned_of true (messages_of outgoing owed sources) }
 {
-    let slot = message_slots::taken(outgoing.slot);
-    let before = outgoing.went;
-    let went = Went {
-        now: false,
-        last: before.now,
-    };
     Outgoing {
-        slot,
-        went,
+        slot: message_slots::taken(outgoing.slot),
+        went: Went {
+            now: false,
+            last: outgoing.went.now,
+        },
         ..outgoing
     }
 }
@@ -49,9 +44,8 @@ pub fn confirmed(own: u8, outgoing: Outgoing, source: u8, confirmation: Confirma
 {
     let slot = outgoing.slot;
     if message_judging::speaks_of(own, outgoing.version, slot, source, confirmation) {
-        let answered = message_slots::answered(slot, confirmation.status);
         Outgoing {
-            slot: answered,
+            slot: message_slots::answered(slot, confirmation.status),
             ..outgoing
         }
     } else {
@@ -63,6 +57,8 @@ pub fn confirmed(own: u8, outgoing: Outgoing, source: u8, confirmation: Confirma
 pub fn handed_in(outgoing: Outgoing, message: Message, octets: u16) -> Outgoing
     ensures { (owed : List Confirmation) (sources : Sources) → messages_of result owed sources ≡ with_slot (messages_of outgoing owed sources) (waiting message octets) }
 {
-    let slot = message_slots::waiting(message, octets);
-    Outgoing { slot, ..outgoing }
+    Outgoing {
+        slot: message_slots::waiting(message, octets),
+        ..outgoing
+    }
 }

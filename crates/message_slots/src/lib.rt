@@ -17,9 +17,9 @@ pub const RESENDS_MOST: u8 = 3;
 pub fn or_failed(slot: Slot) -> Slot
     ensures { result ≡ or_failed slot }
 {
-    let mail = slot.mail;
-    if message_tests::is_unconfirmed(mail)
-        & (message_tests::is_due(slot) & (RESENDS_MOST <= slot.resends))
+    if message_tests::is_unconfirmed(slot.mail)
+        && message_tests::is_due(slot)
+        && RESENDS_MOST <= slot.resends
     {
         Slot {
             mail: Mail::Failed,
@@ -47,45 +47,24 @@ fn unconfirmed(slot: Slot, ticks: u16, takings: u8, asked: bool) -> Slot
 fn counted(slot: Slot, ticks: u16, takings: u8) -> Slot
     ensures { result ≡ where_unconfirmed slot (slot_with slot Unconfirmed ticks takings slot.asked) }
 {
-    let mail = slot.mail;
-    if message_tests::is_unconfirmed(mail) {
+    if message_tests::is_unconfirmed(slot.mail) {
         unconfirmed(slot, ticks, takings, slot.asked)
     } else {
         slot
     }
 }
 
-fn one_more_tick(ticks: u16) -> u16
-    ensures { result ≡ min confirmation_wait (ticks + 1) }
-{
-    if ticks < CONFIRMATION_WAIT {
-        ticks + 1
-    } else {
-        CONFIRMATION_WAIT
-    }
-}
-
-fn one_more_taking(takings: u8) -> u8
-    ensures { result ≡ min takings_wait (takings + 1) }
-{
-    if takings < TAKINGS_WAIT {
-        takings + 1
-    } else {
-        TAKINGS_WAIT
-    }
-}
-
 pub fn ticked(slot: Slot) -> Slot
     ensures { result ≡ slot_ticked slot }
 {
-    let ticks = one_more_tick(slot.ticks);
+    let ticks = slot.ticks.saturating_add(1).min(CONFIRMATION_WAIT);
     counted(slot, ticks, slot.takings)
 }
 
 pub fn taken(slot: Slot) -> Slot
     ensures { result ≡ slot_taken slot }
 {
-    let takings = one_more_taking(slot.takings);
+    let takings = slot.takings.saturating_add(1).min(TAKINGS_WAIT);
     counted(slot, slot.ticks, takings)
 }
 
@@ -111,10 +90,6 @@ pub fn waiting(message: Message, octets: u16) -> Slot
         mail: Mail::Waiting,
         message,
         octets,
-        number: 0,
-        ticks: 0,
-        takings: 0,
-        asked: false,
-        resends: 0,
+        ..Slot::default()
     }
 }

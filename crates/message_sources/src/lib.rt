@@ -1,4 +1,4 @@
-// What is known of the sources, in three arrays of numbers with a place for each octet.
+// What is known of the sources, in three arrays of numbers with a place for each octet. They stay three parameters: C lends `message_hearing::hear` each apart.
 #![tactic(auto)]
 
 ghost use Rattle.std.specs.Prelude.{◌≡◌};
@@ -19,7 +19,7 @@ pub fn judge(
 ) -> Judged
     ensures { result ≡ judge_of (known_of (sources_in versions.now one_to_one.now to_all.now) letter.source) letter }
 {
-    let place = letter.source as usize;
+    let place = usize::from(letter.source);
     message_judging::judge(versions[place], one_to_one[place], to_all[place], letter)
 }
 
@@ -34,7 +34,7 @@ fn register(
     ensures one_to_one_after { one_to_one.new ≡ (sources_after (sources_in versions.old one_to_one.old to_all.old) OtherVersion letter).one_to_one }
     ensures to_all_after { to_all.new ≡ (sources_after (sources_in versions.old one_to_one.old to_all.old) OtherVersion letter).to_all }
 {
-    let place = letter.source as usize;
+    let place = usize::from(letter.source);
     versions[place] = letter.version;
     one_to_one[place] = 0;
     to_all[place] = 0;
@@ -50,11 +50,9 @@ fn note_new(
     ensures one_to_one_after { one_to_one.new ≡ (sources_after (sources_in versions.old one_to_one.old to_all.old) New letter).one_to_one }
     ensures to_all_after { to_all.new ≡ (sources_after (sources_in versions.old one_to_one.old to_all.old) New letter).to_all }
 {
-    let place = letter.source as usize;
-    let message = letter.message;
-    let version = letter.version;
-    versions[place] = version;
-    if is_to_all(message.destination) {
+    let place = usize::from(letter.source);
+    versions[place] = letter.version;
+    if is_to_all(letter.message.destination) {
         to_all[place] = letter.number;
     } else {
         one_to_one[place] = letter.number;
@@ -74,9 +72,8 @@ pub fn note(
     ensures to_all_after { to_all.new ≡ (sources_after (sources_in versions.old one_to_one.old to_all.old) judged letter).to_all }
 {
     match judged {
-        Judged::Abnormal => {}
+        Judged::Abnormal | Judged::Repeat => {}
         Judged::OtherVersion => register(versions, one_to_one, to_all, letter),
-        Judged::Repeat => {}
         Judged::New => note_new(versions, one_to_one, to_all, letter),
     }
 }

@@ -19,7 +19,7 @@ use message_beginning::begin_where;
 use message_places::{OUTGOING_NUMBERS, OWED_NUMBERS};
 use station::Settings;
 
-// The word of an answer that is done.
+// The word of an answer that is done, for C: the call below answers numbers.
 const DONE: u8 = 1;
 
 // A start that is done begins with nothing of messages but the allowed cycle and the version.

@@ -1,6 +1,6 @@
 -- A taking, told by the ring part before and after a call: whether we held the token before it and hold it after it, and of an asking whether it wrote the
 -- last block of our turn. Assumes nothing.
-use Rattle.std.specs.Prelude.{◌≡◌, ◌&&◌, ◌||◌, ◌+◌, ◌<◌}
+use Rattle.std.specs.Prelude.{Ok, Err, ◌≡◌, ◌&&◌, ◌||◌, ◌+◌, ◌<◌}
 use Rattle.laws.specs.Usual.{refl, sym, ap, ◌∙◌, Bool, true, false, false≢true, cond, not, List, ℕ, arith, eqb}
 use Rattle.std.proofs.Common.{ltb-true, ne_eqb}
 use Rattle.area.specs.Areas.{in_range}
@@ -16,8 +16,7 @@ use Rattle.station.specs.Panel.History.{taking_by, passed_by, writes_to_us}
 use Rattle.station.specs.Rules.Asking.{Asking, ask_of, is_last, is_placed, next_station, block_sent, due_fields}
 use Rattle.station.specs.Rules.Calls.{ask}
 use Rattle.station.specs.Rules.State.{is_participating, holds, begun}
-use Rattle.station.specs.declared.Asked.{Asked}
-use Rattle.station.specs.declared.Asked.TheVariants.{Octets, Refused}
+use Rattle.station.specs.Types.{Asked}
 use Rattle.station.specs.declared.Phase.{Phase}
 use Rattle.station.specs.declared.Phase.TheVariants.{Startup, Joining, Listening, Participating}
 use Rattle.station.specs.declared.Station.{Station}
@@ -27,8 +26,8 @@ abbrev pub is_holder : Station → Bool
 is_holder station = is_participating station.phase && holds station
 
 abbrev pub is_frame : Asked → Bool
-is_frame (Octets count) = true
-is_frame (Refused refusal) = false
+is_frame (Ok count) = true
+is_frame (Err refusal) = false
 
 -- A tick and a hearing are takings where we hold the token after them and did not before.
 pub taken_by_lem : (before left : Station) → taking_by before false left ≡ (is_holder left && not (is_holder before))

@@ -9,6 +9,7 @@ ghost use Rattle.station.specs.Types.{Members};
 
 use boundary_places::NUMBERS;
 use boundary_reading::core_in;
+use station::Phase;
 
 // Whether we participate and hold the token. The list does not matter to it.
 pub fn is_holder(core: &[u32; NUMBERS]) -> bool
@@ -16,5 +17,5 @@ pub fn is_holder(core: &[u32; NUMBERS]) -> bool
 {
     let state = core_in(core);
     let own = state.own;
-    (state.phase == boundary_core::PARTICIPATING) & (state.view == own.number)
+    state.is_in(Phase::Participating) & (state.view == own.number)
 }

@@ -22,47 +22,32 @@ pub fn to_all(destination: u8) -> bool
 pub fn is_waiting(mail: Mail) -> bool
     ensures { result ≡ is_waiting mail }
 {
-    match mail {
-        Mail::Nothing => false,
-        Mail::Waiting => true,
-        Mail::Unconfirmed => false,
-        Mail::Confirmed => false,
-        Mail::Sent => false,
-        Mail::Failed => false,
-    }
+    mail == Mail::Waiting
 }
 
 pub fn is_unconfirmed(mail: Mail) -> bool
     ensures { result ≡ is_unconfirmed mail }
 {
-    match mail {
-        Mail::Nothing => false,
-        Mail::Waiting => false,
-        Mail::Unconfirmed => true,
-        Mail::Confirmed => false,
-        Mail::Sent => false,
-        Mail::Failed => false,
-    }
+    mail == Mail::Unconfirmed
 }
 
 // Whether no other message can be handed in yet.
 pub fn is_open(mail: Mail) -> bool
     ensures { result ≡ is_open mail }
 {
-    is_waiting(mail) | is_unconfirmed(mail)
+    is_waiting(mail) || is_unconfirmed(mail)
 }
 
 // Whether a resend is due: by a status that came, or by both waits.
 pub fn is_due(slot: Slot) -> bool
     ensures { result ≡ is_due slot }
 {
-    slot.asked | ((CONFIRMATION_WAIT <= slot.ticks) & (TAKINGS_WAIT <= slot.takings))
+    slot.asked || (CONFIRMATION_WAIT <= slot.ticks && TAKINGS_WAIT <= slot.takings)
 }
 
 // Whether the message goes for the first time or again, where the cycle lets it.
 pub fn is_to_go(slot: Slot) -> bool
     ensures { result ≡ is_to_go slot }
 {
-    let mail = slot.mail;
-    is_waiting(mail) | (is_unconfirmed(mail) & is_due(slot))
+    is_waiting(slot.mail) || (is_unconfirmed(slot.mail) && is_due(slot))
 }

@@ -31,9 +31,7 @@ pub fn tick(taking: bool, numbers: &mut [u32; OUTGOING_NUMBERS])
     ensures numbers_after { (owed : List Confirmation) (sources : Sources) → numbers.new ≡ kept_outgoing numbers.old (outgoing_of (turned_of taking (ticked_of (messages_of (outgoing_in numbers.old) owed sources)))) }
 {
     let outgoing = outgoing_in(numbers);
-    let slot = outgoing.slot;
-    let mail = slot.mail;
-    if taking | message_tests::is_unconfirmed(mail) {
+    if taking | message_tests::is_unconfirmed(outgoing.slot.mail) {
         keep(
             numbers,
             turned_where(taking, message_sending::ticked(outgoing)),

@@ -1,5 +1,5 @@
 -- A pair of stations, 1 and 2, and a message from 1 to 2 that is confirmed. Each step leaves the states that are written out here. Assumes nothing.
-use Rattle.std.specs.Prelude.{◌≡◌, ◌∷◌, ◌++◌}
+use Rattle.std.specs.Prelude.{Ok, ◌≡◌, ◌∷◌, ◌++◌}
 use Rattle.laws.specs.Usual.{refl, Bool, true, false, cond, List, [], ℕ, drop, eqb, replicate, take}
 use Rattle.frame_reading.specs.Reading.{fields_of}
 use Rattle.frame_writing.specs.Writing.{header_of, front_of, back_of, fixed_for}
@@ -18,7 +18,6 @@ use Rattle.message_worked.specs.Bringing.{output, no_mail, hears, allowance, tok
 use Rattle.ring.specs.Events.{Lent}
 use Rattle.ring_worked.specs.Bringing.{large}
 use Rattle.station.specs.Types.{Milliseconds}
-use Rattle.station.specs.declared.Asked.TheVariants.{Octets}
 use Rattle.station.specs.declared.Data.TheVariants.{Written}
 use Rattle.message.specs.declared.Posted.TheVariants as posting
 use Rattle.message.specs.declared.Received.TheVariants as received
@@ -127,7 +126,7 @@ unfolding header_of front_of back_of fixed_for fields_of letters.letter_in lette
 goes_out = (refl, refl)
 
 -- the frame: 64 octets, then its data
-pub went_answer : ((ask_of (one_posted short) large large output mail).answer ≡ Octets 66)
+pub went_answer : ((ask_of (one_posted short) large large output mail).answer ≡ Ok 66)
     × (take 66 (ask_of (one_posted short) large large output mail).output ≡ letter) × (mail_of (one_went short) ≡ Unconfirmed)
 unfolding letters.header_of
 went_answer = (refl, refl, refl)
@@ -165,7 +164,7 @@ unfolding header_of front_of back_of fixed_for fields_of
 is_confirmed = (refl, refl)
 
 -- the frame has 20 octets more, and station 1 answers as to one without them
-pub carries : ((ask_of (two_holds short) large large output no_mail).answer ≡ Octets 84)
+pub carries : ((ask_of (two_holds short) large large output no_mail).answer ≡ Ok 84)
     × (take 84 (ask_of (two_holds short) large large output no_mail).output ≡ carrying confirmation (token short 2 1))
     × ((hear_of (one_passed short) (carrying confirmation (token short 2 1)) large large).answer ≡ received.Told (heard.Cyclic (tokens.OursNow Written)))
     × (mail_of (one_confirmed short) ≡ Confirmed)

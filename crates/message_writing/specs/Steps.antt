@@ -1,22 +1,13 @@
 -- A message frame written in steps: the parts of its header, then its data right behind. Assumes nothing.
 use Rattle.std.specs.Prelude.{◌≡◌, ◌++◌, ◌+◌, ◌≤◌}
-use Rattle.laws.specs.Usual.{sym, ap, ap₂, ◌∙◌, List, ℕ, arith, length, take, drop}
-use Rattle.std.proofs.Common.{zero-add, length-append, length-take-le}
-use Rattle.copying.specs.Laws.{paste_append, paste_both}
+use Rattle.laws.specs.Usual.{sym, ap, ap₂, ◌∙◌, List, ℕ, length, take, drop}
+use Rattle.std.proofs.Common.{length-take-le}
+use Rattle.copying.specs.Laws.{paste_both}
 use Rattle.copying.specs.Pasted.{pasted}
+use Rattle.frame_writing.proofs.Joined.{joined}
 use Rattle.message.specs.declared.Letter.{Letter}
-use Rattle.message_frames.specs.Frames.{header_of, whole_length, output_of}
-use Rattle.message_writing.specs.Parts.{front_of, middle_of, back_of, in_parts, length_front, length_middle, length_header}
-
--- three lists, one right behind the other
-joined : (out a b c : List ℕ) → length a ≡ 16 → length b ≡ 24 → 64 ≤ length out → pasted (pasted (pasted out 0 a) 16 b) 40 c ≡ pasted out 0 ((a ++ b) ++ c)
-joined out a b c p q room =
-    let both : length (a ++ b) ≡ 40 = rw (length-append a b) (omega arith) in
-    let first : pasted (pasted out 0 a) 16 b ≡ pasted out 0 (a ++ b) =
-    ap (λ (k : ℕ). pasted (pasted out 0 a) k b) (sym (zero-add (length a) ∙ p)) ∙ paste_append out a b 0 (omega arith) in
-    ap (λ (l : List ℕ). pasted l 40 c) first
-    ∙ ap (λ (k : ℕ). pasted (pasted out 0 (a ++ b)) k c) (sym (zero-add (length (a ++ b)) ∙ both))
-    ∙ paste_append out (a ++ b) c 0 (omega arith)
+use Rattle.message_frames.specs.Frames.{header_of, output_of}
+use Rattle.message_writing.specs.Parts.{length_header, front_of, middle_of, back_of, in_parts, length_front, length_middle}
 
 pub header_in_steps : (letter : Letter) (out : List ℕ) → 64 ≤ length out
     → pasted (pasted (pasted out 0 (front_of letter)) 16 (middle_of letter)) 40 (back_of letter) ≡ pasted out 0 (header_of letter)

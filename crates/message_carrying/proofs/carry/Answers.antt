@@ -1,5 +1,5 @@
 -- `message_carrying::carry` meets its contract.
-use Rattle.laws.specs.Usual.{ap, ap₂, ◌∙◌, List, ℕ, rules}
+use Rattle.laws.specs.Usual.{ap, ap₂, ◌∙◌, List, ℕ}
 use Rattle.copying.specs.Pasted.{pasted}
 use Rattle.message_carrying.specs.Steps.{moved, in_steps}
 use Rattle.message_carrying.proofs.carry.Goals as goal

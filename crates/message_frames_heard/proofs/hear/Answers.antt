@@ -2,7 +2,7 @@
 use Rattle.std.specs.Prelude.{◌≡◌, ◌&&◌}
 use Rattle.laws.specs.Usual.{sym, ap, ap₂, ◌∙◌, Bool, true, false, not, ℕ, eqb}
 use Rattle.boundary_answers.specs.declared.Answer.{Answer}
-use Rattle.boundary_core.specs.Crossing.{phase_of, station_in}
+use Rattle.boundary_core.specs.Crossing.{station_in}
 use Rattle.boundary_core.specs.declared.Core.{Core}
 use Rattle.boundary_places.specs.Places.{core_in}
 use Rattle.boundary_refused.specs.Taken.{participating_in}
@@ -20,6 +20,7 @@ use Rattle.station.specs.Rules.Hearing.{hear_of}
 use Rattle.station.specs.Rules.State.{is_off}
 use Rattle.station.specs.declared.Phase.{Phase}
 use Rattle.message_frames_heard.specs.Heard.{messages_heard, read_in, cyclic_word, phase_after, forgotten, still_on}
+use Rattle.station.specs.Rules.Answers.{phase_number}
 use Rattle.message_frames_heard.proofs.hear.Goals as goal
 
 pub returns-then-turned_off : goal.returns-then-turned_off
@@ -31,7 +32,7 @@ returns-then-turned_off c =
     let base = c.hear-answer.ensures in
     let done = c.begin_where.ensures in
     let off : turns_off station left ≡ true =
-    ap₂ (λ (k : Core) (p : Phase). not (is_off (phase_of k.phase)) && is_off p) (sym c.core_in-before.ensures.value)
+    ap₂ (λ (k : Core) (p : Phase). not (is_off k.phase) && is_off p) (sym c.core_in-before.ensures.value)
     (sym (phase_after _ left (c.core_in.ensures.value ∙ base.core_after)))
     ∙ sym c.turned_off.ensures ∙ c.if-turned_off.true in
     let same : begun_where true c.nothing-nothing.result messages ≡ messages_heard station messages a.octets.now a.memory.now a.assembly.now =
@@ -48,7 +49,7 @@ returns c =
     let left = heard.station in
     let base = c.hear-answer.ensures in
     let on : turns_off station left ≡ false =
-    ap₂ (λ (k : Core) (p : Phase). not (is_off (phase_of k.phase)) && is_off p) (sym c.core_in-before.ensures.value)
+    ap₂ (λ (k : Core) (p : Phase). not (is_off k.phase) && is_off p) (sym c.core_in-before.ensures.value)
     (sym (phase_after _ left (c.core_in.ensures.value ∙ base.core_after)))
     ∙ sym c.turned_off.ensures ∙ c.if-turned_off.false in
     let taking =
@@ -58,14 +59,14 @@ returns c =
     ∙ sym (taken_by_lem station left) in
     let may =
     ap₂ (λ (t : Bool) (u : Bool). t && u)
-    (ap (λ (k : Core). eqb k.phase 4) c.core_in-before.ensures.value ∙ sym (participating_in read.phase))
+    (c.is_in.ensures ∙ ap (λ (k : Core). eqb (phase_number k.phase) 4) c.core_in-before.ensures.value ∙ sym (participating_in read.phase))
     (ap (λ (r : Answer). eqb r.word 2) base.value ∙ cyclic_word a.octets.now heard.answer) in
     let own : c.core_in-before.result.own.number ≡ read.own.number = ap (λ (k : Core). k.own.number) c.core_in-before.ensures.value in
     let same = still_on station messages a.octets.now a.memory.now a.assembly.now _ _ on may taking in
     let done = c.frame_turned.ensures in
-    let by : turned (c.is_holder.result && not c.is_holder-held.result) (read_in (eqb c.core_in-before.result.phase 4 && eqb c.hear-answer.result.word 2) c.core_in-before.result.own.number a.octets.now messages)
+    let by : turned (c.is_holder.result && not c.is_holder-held.result) (read_in (c.is_in.result && eqb c.hear-answer.result.word 2) c.core_in-before.result.own.number a.octets.now messages)
     ≡ messages_heard station messages a.octets.now a.memory.now a.assembly.now =
-    ap (λ (n : ℕ). turned (c.is_holder.result && not c.is_holder-held.result) (read_in (eqb c.core_in-before.result.phase 4 && eqb c.hear-answer.result.word 2) n a.octets.now messages)) own
+    ap (λ (n : ℕ). turned (c.is_holder.result && not c.is_holder-held.result) (read_in (c.is_in.result && eqb c.hear-answer.result.word 2) n a.octets.now messages)) own
     ∙ same in record {
       core_after = base.core_after;
       core_after_2 = base.core_after_2;

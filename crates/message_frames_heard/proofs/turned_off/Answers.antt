@@ -2,4 +2,4 @@
 use Rattle.message_frames_heard.proofs.turned_off.Goals as goal
 
 pub returns : goal.returns
-returns c = rw (c.is_off.ensures, c.phase_of.ensures, c.is_off-2.ensures, c.phase_of-2.ensures)
+returns c = rw (c.is_off.ensures, c.is_off-2.ensures)

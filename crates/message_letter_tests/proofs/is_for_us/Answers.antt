@@ -1,6 +1,6 @@
 -- `message_letter_tests::is_for_us` meets its contract.
 use Rattle.std.specs.Prelude.{◌&&◌, ◌||◌}
-use Rattle.laws.specs.Usual.{ap₂, Bool, eqb, rules}
+use Rattle.laws.specs.Usual.{ap₂, Bool, eqb}
 use Rattle.message_letter_tests.proofs.is_for_us.Goals as goal
 
 pub returns : goal.returns

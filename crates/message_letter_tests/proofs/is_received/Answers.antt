@@ -1,6 +1,6 @@
 -- `message_letter_tests::is_received` meets its contract.
 use Rattle.std.specs.Prelude.{◌&&◌}
-use Rattle.laws.specs.Usual.{ap₂, Bool, not, rules}
+use Rattle.laws.specs.Usual.{ap₂, Bool, not}
 use Rattle.message_letter_tests.proofs.is_received.Goals as goal
 
 pub returns : goal.returns

@@ -1,10 +1,9 @@
 -- `message_letter_tests::is_taken` meets its contract.
 use Rattle.std.specs.Prelude.{◌&&◌}
-use Rattle.laws.specs.Usual.{ap, ◌∙◌, Bool, not, eqb, rules}
-use Rattle.station.specs.Rules.State.{is_off}
+use Rattle.laws.specs.Usual.{ap, Bool, not, eqb}
 use Rattle.message_letter_tests.proofs.is_taken.Goals as goal
 
 pub returns : goal.returns
 returns c =
     let a = c.args in
-    ap (λ (t : Bool). not t && eqb a.letter.source a.core.own.number) (c.is_off.ensures ∙ ap is_off c.phase_of.ensures)
+    ap (λ (t : Bool). not t && eqb a.letter.source a.core.own.number) c.is_off.ensures

@@ -1,5 +1,4 @@
 -- `message_owed::is_owing` meets its contract.
-use Rattle.laws.specs.Usual.{rules}
 use Rattle.message_owed.specs.Steps.{owing_told}
 use Rattle.message_owed.proofs.is_owing.Goals as goal
 

@@ -1,10 +1,8 @@
 -- `message_owed::oldest` meets its contract.
-use Rattle.laws.specs.Usual.{◌∙◌, arith}
+use Rattle.std.specs.Prelude.{Some}
+use Rattle.laws.specs.Usual.{ap, ◌∙◌}
 use Rattle.message_owed.specs.Steps.{oldest_first}
 use Rattle.message_owed.proofs.oldest.Goals as goal
 
-pub returns : goal.returns
-returns c first rest e = c.confirmation_at.ensures ∙ oldest_first c.args.owed.now first rest e
-
-pub confirmation_at-requires : goal.confirmation_at-requires
-confirmation_at-requires c = omega arith
+pub returns-then-is_owing-clause-value : goal.returns-then-is_owing-clause-value
+returns-then-is_owing-clause-value c first rest e = ap Some (c.confirmation_at.ensures ∙ oldest_first c.args.owed.now first rest e)

@@ -2,7 +2,7 @@
 use Rattle.std.specs.Prelude.{◌≡◌, ◌<◌}
 use Rattle.laws.specs.Usual.{sym, ap, ap₂, ◌∙◌, true, false, List, ℕ, arith, length, leb}
 use borrow.Author.Tests.{eq-eqb, ne_eqb, leb-true}
-use Rattle.boundary_core.specs.Crossing.{phase_of, station_in}
+use Rattle.boundary_core.specs.Crossing.{station_in}
 use Rattle.boundary_core.specs.declared.Core.{Core}
 use Rattle.boundary_places.specs.Places.{core_in}
 use Rattle.laws.specs.Tests.{first}
@@ -71,8 +71,8 @@ returns-then-is_off c =
     let small : a.message.destination < 256 = omega arith in
     let sendable = c.is_sendable.ensures in
     let free : is_open before.slot.mail ≡ false = ap (λ (o : Outgoing). is_open o.slot.mail) (sym c.outgoing_in-state.ensures.value) ∙ sym c.is_open.ensures ∙ c.if-is_open.false in
-    let out : is_off (phase_of read.phase) ≡ true =
-    ap (λ (k : Core). is_off (phase_of k.phase)) (sym c.core_in.ensures.value) ∙ ap is_off (sym c.phase_of.ensures) ∙ sym c.is_off.ensures ∙ c.if-is_off.true in
+    let out : is_off read.phase ≡ true =
+    ap (λ (k : Core). is_off k.phase) (sym c.core_in.ensures.value) ∙ sym c.is_off.ensures ∙ c.if-is_off.true in
     let both = left_alone a.outgoing.now posting (posted.Off) _ a.mail.now c.outgoing_in-state.ensures.numbers_len
     (λ areas watch misses owed sources.
     at_off (station_in read a.listed.now areas watch misses) (messages_of before owed sources) a.message a.octets.now a.mail.now
@@ -99,8 +99,8 @@ returns c =
     let small : a.message.destination < 256 = omega arith in
     let sendable = c.is_sendable.ensures in
     let free : is_open before.slot.mail ≡ false = ap (λ (o : Outgoing). is_open o.slot.mail) (sym c.outgoing_in-state.ensures.value) ∙ sym c.is_open.ensures ∙ c.if-is_open.false in
-    let on : is_off (phase_of read.phase) ≡ false =
-    ap (λ (k : Core). is_off (phase_of k.phase)) (sym c.core_in.ensures.value) ∙ ap is_off (sym c.phase_of.ensures) ∙ sym c.is_off.ensures ∙ c.if-is_off.false in
+    let on : is_off read.phase ≡ false =
+    ap (λ (k : Core). is_off k.phase) (sym c.core_in.ensures.value) ∙ sym c.is_off.ensures ∙ c.if-is_off.false in
     let both = meets a.outgoing.now posting c.handed_in-waiting.result posted.Done _ _ _
     (λ areas watch misses owed sources.
     handed (station_in read a.listed.now areas watch misses) (messages_of before owed sources) a.message a.octets.now a.mail.now

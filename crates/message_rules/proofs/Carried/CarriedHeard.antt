@@ -6,7 +6,7 @@ use Rattle.frame.specs.declared.Code.{Code}
 use Rattle.frame.specs.declared.Code.TheVariants.{Token, Cyclic, Request, Trigger}
 use Rattle.frame.specs.declared.Fields.{Fields}
 use Rattle.frame_reading.specs.Reading.{data_of}
-use Rattle.frame_reading.specs.declared.Read.{Read}
+use Rattle.frame_reading.specs.Reading.{Read}
 use Rattle.frame_round_trip.specs.Accepted.{Accepted}
 use Rattle.message.specs.declared.Confirmation.{Confirmation}
 use Rattle.message_rules.proofs.Carried.CarriedRead.{accepted_with, data_with, relength, Plain}
@@ -14,7 +14,7 @@ use Rattle.message_frames.specs.Confirmations.{carrying}
 use Rattle.message_frames.specs.Places.{confirmation_length}
 use Rattle.station.proofs.Frames.FrameAccepted.{header_read, body_read}
 use Rattle.station.specs.Rules.Data.{gathered}
-use Rattle.station.specs.Rules.Hearing.{enters, enters_answer, participant_heard, is_taken, after_taken, is_stranger, lent_right, refused, accepted, header_heard, body_heard, hear_of}
+use Rattle.station.specs.Rules.Hearing.{enters, enters_answer, participant_heard, is_taken, after_taken, is_stranger, lent_right, refused, header_heard, body_heard, hear_of}
 use Rattle.station.specs.Rules.State.{is_participating}
 use Rattle.station.specs.declared.Phase.{Phase}
 use Rattle.station.specs.declared.Phase.TheVariants.{Off, Listening, Startup, Joining, Participating}

@@ -1,5 +1,5 @@
 -- The base reads a cyclic frame with a confirmation in it as it reads it without, but for its length. Assumes nothing.
-use Rattle.std.specs.Prelude.{◌≡◌, ◌&&◌, ◌||◌, ◌+◌, ◌-◌, ◌*◌, ◌≤◌}
+use Rattle.std.specs.Prelude.{Ok, ◌≡◌, ◌&&◌, ◌||◌, ◌+◌, ◌-◌, ◌*◌, ◌≤◌}
 use Rattle.laws.specs.Usual.{refl, sym, ap, ap₂, ◌∙◌, Bool, true, cond, not, List, ℕ, arith, length, drop, eqb, leb}
 use Rattle.std.proofs.Math.Bool.{or-true}
 use Rattle.std.proofs.Common.{le-leb, eq-eqb, eqb-true}
@@ -11,7 +11,6 @@ use Rattle.frame.specs.Positions.{TFL, SNA, DNA, TCD, C_AD1, C_SZ1, C_AD2, C_SZ2
 use Rattle.frame.specs.declared.Code.{Code}
 use Rattle.frame.specs.declared.Fields.{Fields}
 use Rattle.frame_reading.specs.Reading.{marked, fields_of, totalled, numbered, measured, blocked, read_of, data_size, data_of}
-use Rattle.frame_reading.specs.declared.Read.TheVariants.{Frame}
 use Rattle.frame_round_trip.specs.Accepted.{Accepted}
 use Rattle.frame_round_trip.proofs.Accepted.{accepted as passed}
 use Rattle.laws.specs.Tests.{both, first, second, implied}
@@ -66,7 +65,7 @@ pub record Plain (s : List ℕ) (fields : Fields) : Type 0 where
   pub header : 64 + fields.size ≡ length s
 
 -- a cyclic frame that is read, whose length is that of its block and 64
-pub plain_of : (s : List ℕ) (fields : Fields) → read_of s ≡ Frame fields → is_cyclic fields.code ≡ true → fields.length ≡ 64 + fields.size → Plain s fields
+pub plain_of : (s : List ℕ) (fields : Fields) → read_of s ≡ Ok fields → is_cyclic fields.code ≡ true → fields.length ≡ 64 + fields.size → Plain s fields
 unfolding fields_of
 plain_of s fields read cyclic long =
     let passes = passed s fields read in

@@ -1,11 +1,10 @@
 -- What an asking writes where no message goes: the base's frame, or the base's frame with a confirmation put in. To whoever hears it, it is the base's frame.
 -- Assumes nothing.
-use Rattle.std.specs.Prelude.{◌≡◌, ◌&&◌, ◌∷◌, ◌++◌, ◌+◌, ◌≤◌}
+use Rattle.std.specs.Prelude.{Ok, ◌≡◌, ◌&&◌, ◌∷◌, ◌++◌, ◌+◌, ◌≤◌}
 use Rattle.laws.specs.Usual.{[], refl, sym, ap, subst, ◌∙◌, Bool, true, false, cond, List, ℕ, length, take, drop, leb}
 use Rattle.std.proofs.Common.{take_at}
 use Rattle.frame.specs.declared.Fields.{Fields}
 use Rattle.frame_reading.specs.Reading.{read_of}
-use Rattle.frame_reading.specs.declared.Read.TheVariants.{Frame}
 use Rattle.frame_round_trip.proofs.Accepted.{reads}
 use Rattle.message.specs.declared.Confirmation.{Confirmation}
 use Rattle.message_rules.proofs.Ring.Buffers.{read_frame}
@@ -21,7 +20,6 @@ use Rattle.station.specs.declared.Station.{Station}
 use Rattle.message_rules.specs.Carried.Wrote.{Wrote, alone, carries}
 use Rattle.station.specs.Rules.Asking as asking
 use Rattle.station.specs.Rules.Hearing as hearing
-use Rattle.station.specs.declared.Asked.TheVariants as asked
 
 -- of two
 either : {s : List ℕ} (test : Bool) (one other : Carried) → Wrote s (take one.count one.output) → Wrote s (take other.count other.output)
@@ -43,12 +41,12 @@ module _ (count : ℕ) (output : List ℕ) (long : length (take count output) �
       either (leb (count + confirmation_length) (length output)) _ _ (subst (Wrote (take count output)) (sym (put_in confirmation)) (carries confirmation)) alone
 
   pub asked_wrote : (both : Both) → Wrote (take count output)
-      (take (carried_by both (asked.Octets count) output).count (carried_by both (asked.Octets count) output).output)
+      (take (carried_by both (Ok count) output).count (carried_by both (Ok count) output).output)
   asked_wrote both = either (is_participating both.ring.phase && asking.is_last both.ring) _ _ (owed_wrote both.messages.owed) alone
 
 module _ {s : List ℕ} {fields : Fields} (plain : Plain s fields) where
   -- it reads as the frame, but for its length,
-  pub wrote_read : {t : List ℕ} → Wrote s t → (count : ℕ) × (read_of t ≡ Frame (relength count fields))
+  pub wrote_read : {t : List ℕ} → Wrote s t → (count : ℕ) × (read_of t ≡ Ok (relength count fields))
   wrote_read alone = (fields.length, reads plain.accepted)
   wrote_read (carries confirmation) = (length s + confirmation_length, reads (accepted_with confirmation s fields plain))
 

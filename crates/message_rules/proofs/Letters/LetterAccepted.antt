@@ -1,6 +1,6 @@
 -- "the frames it writes read back to the same fields": a message that an asking writes does, and every participant that lists its sender accepts it. Assumes
 -- nothing.
-use Rattle.std.specs.Prelude.{◌≡◌, ◌&&◌, ◌-◌}
+use Rattle.std.specs.Prelude.{Ok, ◌≡◌, ◌&&◌, ◌-◌}
 use Rattle.laws.specs.Usual.{refl, ap, ◌∙◌, Bool, true, false, cond, not, false≢true, List, ℕ, length, take, drop}
 use Rattle.std.proofs.Math.Bool.{and-false}
 use Rattle.std.proofs.Common.{ne_eqb}
@@ -30,7 +30,6 @@ use Rattle.message_rules.specs.Rules.Hearing as letters
 use Rattle.station.specs.Rules.Asking as asking
 use Rattle.station.specs.Rules.Calls as base
 use Rattle.station.specs.Rules.Hearing as hearing
-use Rattle.station.specs.declared.Asked.TheVariants as answers
 use Rattle.station.specs.declared.Heard.TheVariants as heard
 
 -- who participates is not off
@@ -87,7 +86,7 @@ module _ {sender : Both} (reached : Reachable sender) (memory turn output mail :
       ∙ octets_are sender memory turn output mail right lends now
 
   -- the answer is its length, and it reads back to its fields and its data
-  pub letter_count : (ask_of sender memory turn output mail).answer ≡ answers.Octets (whole_length letter)
+  pub letter_count : (ask_of sender memory turn output mail).answer ≡ Ok (whole_length letter)
   letter_count = ap (λ (a : Asking). a.answer) (asks_letter sender memory turn output mail right lends now)
 
   pub letter_back : letter_in written ≡ letter

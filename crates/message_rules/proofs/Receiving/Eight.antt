@@ -1,5 +1,5 @@
 -- Up to eight confirmations are owed, in every state that calls can leave. Assumes nothing.
-use Rattle.std.specs.Prelude.{◌≡◌, ◌&&◌, ◌∷◌, ◌+◌, ◌≤◌}
+use Rattle.std.specs.Prelude.{Ok, Err, ◌≡◌, ◌&&◌, ◌∷◌, ◌+◌, ◌≤◌}
 use Rattle.laws.specs.Usual.{[], sym, subst, Bool, true, false, cond, not, List, ℕ, arith, length, leb}
 use Rattle.std.proofs.Common.{ltb-false}
 use Rattle.message.specs.Codes.{to_all}
@@ -17,8 +17,7 @@ use Rattle.message_rules.specs.Rules.State.{Messages, no_messages, begun}
 use Rattle.station.proofs.Outcomes.SwitchCases.{start_cases, stop_cases}
 use Rattle.station.specs.Outcomes.SwitchCases.{SwitchCases, refuses, does}
 use Rattle.station.specs.Rules.State.{is_participating}
-use Rattle.station.specs.declared.Asked.{Asked}
-use Rattle.station.specs.declared.Asked.TheVariants.{Octets, Refused}
+use Rattle.station.specs.Types.{Asked}
 use Rattle.station.specs.declared.Station.{Station}
 use Rattle.message_rules.specs.Receiving.Eight.{Few}
 use Rattle.message_rules.specs.Outcomes as outcomes
@@ -75,8 +74,8 @@ hear_few both octets memory assembly (outcomes.frame is) few = by (turns_off bot
 
 -- what a frame carries is owed no more
 carried_few : (both : Both) (answer : Asked) (output : List ℕ) → Few both.messages → length (carried_by both answer output).owed ≤ 8
-carried_few both (Refused refusal) output few = few
-carried_few both (Octets count) output few = by (is_participating both.ring.phase && asking.is_last both.ring) both.messages.owed few
+carried_few both (Err refusal) output few = few
+carried_few both (Ok count) output few = by (is_participating both.ring.phase && asking.is_last both.ring) both.messages.owed few
   where
     by : (token : Bool) (list : List Confirmation) → length list ≤ 8
         → length (cond token (carried_in list count output) (record { owed = list; count = count; output = output })).owed ≤ 8

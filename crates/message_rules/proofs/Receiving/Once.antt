@@ -6,7 +6,6 @@ use Rattle.std.proofs.Common.{inl, inr, length-set, get_or-set_same, get_or-set_
 use Rattle.std.proofs.Math.Decide.{ℕ_discrete}
 use Rattle.std.proofs.lemmas.Bool.{eqb-false}
 use Rattle.laws.specs.Tests.{second}
-use Rattle.message.specs.Codes.{to_all}
 use Rattle.message.specs.declared.Delivery.{Delivery}
 use Rattle.message.specs.declared.Judged.{Judged}
 use Rattle.message.specs.declared.Judged.TheVariants.{Abnormal, OtherVersion, Repeat, New}

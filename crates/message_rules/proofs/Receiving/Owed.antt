@@ -1,7 +1,7 @@
 -- What is handed over will be confirmed: a message that is handed over is owed its confirmation from then until a token frame of ours carries it, or
 -- the station is turned off. Assumes nothing.
 use Rattle.laws.specs.Usual.{[], refl, sym, ap, ◌∙◌, Bool, true, false, cond, not, false≢true, List, ℕ, arith, length, take, eqb, leb}
-use Rattle.std.specs.Prelude.{◌≡◌, ◌&&◌, ◌∷◌, ◌++◌, ◌+◌, ◌≤◌, ◌⊎◌}
+use Rattle.std.specs.Prelude.{Ok, Err, ◌≡◌, ◌&&◌, ◌∷◌, ◌++◌, ◌+◌, ◌≤◌, ◌⊎◌}
 use Rattle.std.proofs.Common.{inl, inr, eq-eqb, eqb-true}
 use Rattle.block.specs.Blocks.{blocks_of}
 use Rattle.frame.specs.Codes.{is_cyclic}
@@ -37,8 +37,7 @@ use Rattle.message_rules.specs.Rules.Confirming.{Carried, same_confirmation, is_
 use Rattle.station.proofs.Frames.FrameAccepted.{frame_asked}
 use Rattle.station.specs.Outcomes.SwitchCases.{SwitchCases}
 use Rattle.station.specs.Rules.State.{is_off, is_participating}
-use Rattle.station.specs.declared.Asked.{Asked}
-use Rattle.station.specs.declared.Asked.TheVariants.{Octets, Refused}
+use Rattle.station.specs.Types.{Asked}
 use Rattle.station.specs.declared.Heard.{Heard}
 use Rattle.station.specs.declared.Phase.{Phase}
 use Rattle.station.specs.declared.Phase.TheVariants.{Off, Listening, Startup, Joining, Participating}
@@ -57,7 +56,7 @@ use Rattle.station.specs.States.Reachable as states
 
 -- an asking writes a frame that carries this confirmation
 pub data Carries (both : Both) : Call → Confirmation → Type 0 where
-  carries : (memory turn output mail : List ℕ) (count : ℕ) (confirmation : Confirmation) → (ask_of both memory turn output mail).answer ≡ Octets count
+  carries : (memory turn output mail : List ℕ) (count : ℕ) (confirmation : Confirmation) → (ask_of both memory turn output mail).answer ≡ Ok count
       → confirms (take count (ask_of both memory turn output mail).output) ≡ true
       → confirmation_in (take count (ask_of both memory turn output mail).output) ≡ confirmation
       → Carries both (ask memory turn output mail) confirmation
@@ -121,7 +120,7 @@ owing_other c other list e = by (is_owed other list)
 
 -- a participant's frame, in a state that calls can leave: a header of 64 octets, its block behind it, and as long as the answer says
 module _ (station : Station) (reached : states.Reachable station) (inside : station.phase ≡ Participating) (memory turn output : List ℕ) (count : ℕ)
-    (answer : (asking.ask_of station memory turn output).answer ≡ Octets count) where
+    (answer : (asking.ask_of station memory turn output).answer ≡ Ok count) where
   abbrev written : List ℕ
   written = take count (asking.ask_of station memory turn output).output
 
@@ -144,7 +143,7 @@ module _ (station : Station) (reached : states.Reachable station) (inside : stat
   count_is : count ≡ whole_length fields
   count_is = by (on_asking_told.ask_cases station memory turn output) answer
     where
-      by : {result : asking.Asking} → on_asking.AskCases station memory turn output result → result.answer ≡ Octets count → count ≡ whole_length fields
+      by : {result : asking.Asking} → on_asking.AskCases station memory turn output result → result.answer ≡ Ok count → count ≡ whole_length fields
       by (on_asking.refuses refusal) e = let z : ◌≡◌ {A = ℕ} 0 1 = cc in absurd (omega arith)
       by (on_asking.sends {fields = found} lent is sent) e = let same : whole_length found ≡ count = cc in sym same ∙ ap whole_length (sym is)
 
@@ -190,13 +189,13 @@ module _ {sender : Both} (reached : Reachable sender) (memory turn output : List
   abbrev Kept : Asked → Type 0
   Kept answer =
       (is_owed confirmation (carried_by sender answer base_asked.output).owed ≡ true)
-      ⊎ ((count : ℕ) × (answer_by answer (carried_by sender answer base_asked.output) ≡ Octets count)
+      ⊎ ((count : ℕ) × (answer_by answer (carried_by sender answer base_asked.output) ≡ Ok count)
       × (confirms (take count (carried_by sender answer base_asked.output).output) ≡ true)
       × (confirmation_in (take count (carried_by sender answer base_asked.output).output) ≡ confirmation))
 
   carried_owes : (answer : Asked) → base_asked.answer ≡ answer → Kept answer
-  carried_owes (Refused refusal) e = inl is_owed_lem
-  carried_owes (Octets count) e = by (is_participating sender.ring.phase) refl (asking.is_last sender.ring) sender.messages.owed is_owed_lem
+  carried_owes (Err refusal) e = inl is_owed_lem
+  carried_owes (Ok count) e = by (is_participating sender.ring.phase) refl (asking.is_last sender.ring) sender.messages.owed is_owed_lem
     where
       none : List Confirmation → Carried
       none list = record { owed = list; count = count; output = base_asked.output }
@@ -204,7 +203,7 @@ module _ {sender : Both} (reached : Reachable sender) (memory turn output : List
       of : Carried → Type 0
       of result =
           (is_owed confirmation result.owed ≡ true)
-          ⊎ ((n : ℕ) × (Octets result.count ≡ Octets n)
+          ⊎ ((n : ℕ) × (◌≡◌ {A = Asked} (Ok result.count) (Ok n))
           × (confirms (take n result.output) ≡ true) × (confirmation_in (take n result.output) ≡ confirmation))
 
       put : is_participating sender.ring.phase ≡ true → (oldest : Confirmation) (rest : List Confirmation) → is_owed confirmation (oldest ∷ rest) ≡ true

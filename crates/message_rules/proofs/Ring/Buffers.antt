@@ -1,18 +1,16 @@
 -- The buffers: what a call on both leaves of the common memory, the assembly buffer and the turn buffer is what the call of the base leaves. Assumes nothing.
-use Rattle.std.specs.Prelude.{◌≡◌}
+use Rattle.std.specs.Prelude.{Ok, Err, ◌≡◌}
 use Rattle.laws.specs.Usual.{refl, sym, ap, ◌∙◌, Bool, true, false, List, ℕ, arith, get_or}
 use Rattle.frame.specs.Octets.{word_at}
 use Rattle.frame.specs.Positions.{TCD}
 use Rattle.frame.specs.declared.Fields.{Fields}
 use Rattle.frame_reading.specs.Reading.{whole, marked, long, read_of}
-use Rattle.frame_reading.specs.declared.Read.TheVariants.{Frame, Refused}
 use Rattle.laws.specs.Tests.{first, second}
 use Rattle.message.proofs.Apart.{message_unknown}
 use Rattle.message_rules.proofs.Ring.Reached.{ring_reached}
 use Rattle.message_rules.specs.Ring.Reached.{Reachable}
-use Rattle.message_rules.specs.Rules.Calls.{Both, Hearing, hear_of}
+use Rattle.message_rules.specs.Rules.Calls.{Both, hear_of}
 use Rattle.message_rules.specs.Rules.Hearing.{is_letter}
-use Rattle.station.proofs.Memory.MemorySame.{memory_same}
 use Rattle.station.proofs.Memory.OursKept.{ours_kept, InAreas}
 use Rattle.station.specs.declared.Station.{Station}
 use Rattle.message_rules.specs.Ring.Buffers.{SameBuffers}
@@ -32,7 +30,7 @@ letter_four station octets memory assembly letter =
     rw (lent, first (whole octets) _ one, first (marked octets) _ two, first (long octets) _ three, code)
 
 -- which a reader of the base cannot read,
-pub letter_unread : (octets memory assembly : List ℕ) → is_letter octets memory assembly ≡ true → read_of octets ≡ Refused refusals.Code
+pub letter_unread : (octets memory assembly : List ℕ) → is_letter octets memory assembly ≡ true → read_of octets ≡ Err refusals.Code
 unfolding read_of
 letter_unread octets memory assembly letter =
     let one = second (base.lent_right memory assembly) _ letter in
@@ -42,7 +40,7 @@ letter_unread octets memory assembly letter =
     rw (first (whole octets) _ one, first (marked octets) _ two, first (long octets) _ three, code)
 
 -- and what it reads is no message;
-pub read_frame : (octets memory assembly : List ℕ) (fields : Fields) → read_of octets ≡ Frame fields → is_letter octets memory assembly ≡ false
+pub read_frame : (octets memory assembly : List ℕ) (fields : Fields) → read_of octets ≡ Ok fields → is_letter octets memory assembly ≡ false
 read_frame octets memory assembly fields read = by (is_letter octets memory assembly) refl
   where
     by : (letter : Bool) → is_letter octets memory assembly ≡ letter → letter ≡ false

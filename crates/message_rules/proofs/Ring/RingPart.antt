@@ -1,5 +1,5 @@
 -- The ring part does not move: what every call on both leaves of it is what the calls of the base leave. Assumes nothing.
-use Rattle.std.specs.Prelude.{◌≡◌, ◌∷◌}
+use Rattle.std.specs.Prelude.{Ok, ◌≡◌, ◌∷◌}
 use Rattle.laws.specs.Usual.{[], refl, sym, ap, ◌∙◌, Bool, true, false, cond, not, false≢true, List, ℕ, length}
 use Rattle.std.proofs.Math.Bool.{and-false}
 use Rattle.std.proofs.lemmas.Bool.{not-true}
@@ -20,12 +20,11 @@ use Rattle.station.specs.Rules.State.{is_off, is_participating, stopped}
 use Rattle.station.specs.declared.Station.{Station}
 use Rattle.frame.specs.declared.Refusal.TheVariants as refusals
 use Rattle.station.specs.Rules.Calls as base
-use Rattle.station.specs.declared.Switched.TheVariants as switched
 
 -- a stop at a station that is not off
 stop_turns : (station : Station) → is_off station.phase ≡ false → base.after station base.stop ≡ stopped station
 stop_turns station on =
-    ap (λ (out : Bool). (need (not out) refusals.NotDue station (record { station = stopped station; answer = switched.Done })).station) on
+    ap (λ (out : Bool). (need (not out) refusals.NotDue station (record { station = stopped station; answer = Ok tt })).station) on
 
 on_of : (station : Station) (letter : Letter) → is_taken station letter ≡ true → is_off station.phase ≡ false
 on_of station letter six = not-true _ (first (not (is_off station.phase)) _ six)

@@ -15,7 +15,7 @@ use Rattle.message_rules.proofs.Ring.Buffers.{letter_four, same_buffers, told}
 use Rattle.message_rules.specs.Ring.OnRing.{own_number_heard, writes_letter, on_ring}
 use Rattle.message_rules.specs.Ring.Reached.{Typed}
 use Rattle.message_rules.proofs.Ring.RingPart.{ring_part}
-use Rattle.message_rules.specs.Rules.Calls.{Both, Call, start, stop, tick, post, hear, ask, after, takes, Hearing, letter_heard, frame_heard, Asking, ask_of, hear_of}
+use Rattle.message_rules.specs.Rules.Calls.{Both, Call, start, stop, tick, post, hear, ask, takes, Hearing, letter_heard, frame_heard, Asking, ask_of, hear_of}
 use Rattle.message_rules.specs.Rules.Hearing.{is_letter, answer_to}
 use Rattle.message_rules.specs.Rules.Posting.{mail_right}
 use Rattle.message_rules.specs.Rules.State.{Messages}

@@ -11,7 +11,7 @@ use Rattle.message.specs.declared.Message.{Message}
 use Rattle.message_frames.specs.Confirmations.{confirms, confirmation_in}
 use Rattle.message_frames.specs.Frames.{letter_in}
 use Rattle.message_rules.specs.Rules.Again.{is_open, is_unconfirmed, turned, slot_answered, slot_gone}
-use Rattle.message_rules.specs.Rules.Calls.{Both, Call, start, stop, tick, post, hear, ask, after, is_done, takes, turns_off, Hearing, Asking, hear_of}
+use Rattle.message_rules.specs.Rules.Calls.{Both, Call, start, stop, tick, post, hear, ask, after, is_done, takes, turns_off, Hearing, Asking}
 use Rattle.message_rules.specs.Rules.Confirming.{is_cyclic_answer, speaks_of, after_frame}
 use Rattle.message_rules.specs.Rules.Cycle.{goes}
 use Rattle.message_rules.specs.Rules.Posting.{Posting, waiting}

@@ -1,6 +1,6 @@
 -- What an asking writes where no message goes: the base's frame, or the base's frame with a confirmation put in. To whoever hears it, it is the base's frame.
 -- Assumes nothing.
-use Rattle.laws.specs.Usual.{[], List, ℕ}
+use Rattle.laws.specs.Usual.{List, ℕ}
 use Rattle.message.specs.declared.Confirmation.{Confirmation}
 use Rattle.message_frames.specs.Confirmations.{carrying}
 

@@ -1,6 +1,6 @@
 -- Up to eight confirmations are owed, in every state that calls can leave. Assumes nothing.
 use Rattle.std.specs.Prelude.{◌≤◌}
-use Rattle.laws.specs.Usual.{[], length}
+use Rattle.laws.specs.Usual.{length}
 use Rattle.message_rules.specs.Rules.State.{Messages}
 
 abbrev pub Few : Messages → Type 0

@@ -1,6 +1,6 @@
 -- "A repeat is handed to the host once": between two handings over of one source, kind, version and number lies one of that source and kind with another
 -- number, or another version of that source was registered, or the station was turned off. Assumes nothing.
-use Rattle.laws.specs.Usual.{[], Bool, true, false, cond, not, List, ℕ, length}
+use Rattle.laws.specs.Usual.{Bool, true, false, cond, not, List, ℕ, length}
 use Rattle.std.specs.Prelude.{◌≡◌, ◌∷◌, ◌⊎◌}
 use Rattle.message.specs.Codes.{to_all}
 use Rattle.message.specs.declared.Judged.{Judged}

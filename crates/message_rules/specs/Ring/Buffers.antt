@@ -2,7 +2,6 @@
 use Rattle.std.specs.Prelude.{◌≡◌}
 use Rattle.laws.specs.Usual.{List, ℕ}
 use Rattle.message_rules.specs.Rules.Calls.{Both, hear_of}
-use Rattle.station.proofs.Memory.MemorySame.{memory_same}
 use Rattle.station.specs.Rules.Hearing as base
 
 -- and leaves the buffers, as the base does.

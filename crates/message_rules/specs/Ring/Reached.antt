@@ -1,7 +1,7 @@
 -- The states that calls can leave since off, message part included, and what holds of their ring parts: all that holds of a station of the base. Assumes
 -- nothing.
 use Rattle.std.specs.Prelude.{◌<◌}
-use Rattle.laws.specs.Usual.{[], ℕ, get_or}
+use Rattle.laws.specs.Usual.{ℕ, get_or}
 use Rattle.message.specs.declared.Message.{Message}
 use Rattle.message_rules.specs.Rules.Calls.{Both, never_both, Call, start, stop, tick, post, hear, ask, after}
 use Rattle.station.specs.States.Reachable.{TypedSettings}

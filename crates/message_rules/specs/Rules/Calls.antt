@@ -1,6 +1,6 @@
 -- All calls of a station with messages. A call on both is the base's call on the ring part, and the message part looks at the ring part before and
 -- after. Two calls leave the ring part alone: handing in a message, and an asking that writes one.
-use Rattle.std.specs.Prelude.{◌&&◌, ◌∷◌}
+use Rattle.std.specs.Prelude.{Ok, Err, ◌&&◌, ◌∷◌}
 use Rattle.laws.specs.Usual.{[], Bool, true, false, cond, not, List, ℕ}
 use Rattle.message.specs.declared.Allowance.{Allowance}
 use Rattle.message.specs.declared.Mail.{Mail}
@@ -10,10 +10,10 @@ use Rattle.message.specs.declared.Received.{Received}
 use Rattle.message_frames.specs.Frames.{whole_length, output_of}
 use Rattle.station.specs.Panel.History.{step_of, is_taking}
 use Rattle.station.specs.Rules.State.{is_off, is_participating, never}
-use Rattle.station.specs.declared.Asked.{Asked}
+use Rattle.station.specs.Types.{Asked}
 use Rattle.station.specs.declared.Settings.{Settings}
 use Rattle.station.specs.declared.Station.{Station}
-use Rattle.station.specs.declared.Switched.{Switched}
+use Rattle.station.specs.Types.{Switched}
 use Rattle.station.specs.declared.Ticked.{Ticked}
 use Rattle.message_rules.specs.Rules.Again.{ticked, turned, gone, letter_going}
 use Rattle.message_rules.specs.Rules.Confirming.{Carried, carried_in, after_frame}
@@ -29,8 +29,6 @@ use Rattle.station.specs.Rules.Calls as base
 use Rattle.station.specs.Rules.Hearing as hearing
 use Rattle.station.specs.Rules.Starting as starting
 use Rattle.station.specs.Rules.Ticking as ticking
-use Rattle.station.specs.declared.Asked.TheVariants as asked
-use Rattle.station.specs.declared.Switched.TheVariants as switched
 use Rattle.message_rules.specs.Rules.Hearing as letters
 
 -- a station with messages: its ring part, which is a station of the base, and its message part
@@ -43,8 +41,8 @@ abbrev pub never_both : Both
 never_both = record { ring = never; messages = no_messages }
 
 abbrev pub is_done : Switched → Bool
-is_done switched.Done = true
-is_done (switched.Refused refusal) = false
+is_done (Ok tt) = true
+is_done (Err refusal) = false
 
 -- start, which also takes the allowed cycle and the version, and stop, which forgets all of messages
 pub record Switching : Type 0 where
@@ -138,22 +136,22 @@ pub record Asking : Type 0 where
 abbrev pub letter_asked : Both → List ℕ → List ℕ → List ℕ → Asking
 letter_asked both turn output mail = record {
   both = record { ring = both.ring; messages = gone both.messages };
-  answer = asked.Octets (whole_length (letter_going both.ring.own.number both.messages));
+  answer = Ok (whole_length (letter_going both.ring.own.number both.messages));
   turn = turn;
   output = output_of (letter_going both.ring.own.number both.messages) mail output;
 }
 
 -- our token frame carries the oldest confirmation that is owed: what the base wrote, with it in
 abbrev pub carried_by : Both → Asked → List ℕ → Carried
-carried_by both (asked.Octets count) output =
+carried_by both (Ok count) output =
     cond (is_participating both.ring.phase && asking.is_last both.ring)
     (carried_in both.messages.owed count output)
     (record { owed = both.messages.owed; count = count; output = output })
-carried_by both (asked.Refused refusal) output = record { owed = both.messages.owed; count = 0; output = output }
+carried_by both (Err refusal) output = record { owed = both.messages.owed; count = 0; output = output }
 
 abbrev pub answer_by : Asked → Carried → Asked
-answer_by (asked.Octets count) carried = asked.Octets carried.count
-answer_by (asked.Refused refusal) carried = asked.Refused refusal
+answer_by (Ok count) carried = Ok carried.count
+answer_by (Err refusal) carried = Err refusal
 
 -- a frame of the base, or its refusal
 abbrev pub frame_asked : Both → asking.Asking → Carried → Bool → Asking
@@ -180,7 +178,7 @@ ask_of both memory turn output mail =
     (cond (asking.lent_right memory turn output && goes both.ring both.messages)
     (letter_asked both turn output mail)
     (block_asked both memory turn output))
-    (record { both = both; answer = asked.Refused refusals.Buffer; turn = turn; output = output })
+    (record { both = both; answer = Err refusals.Buffer; turn = turn; output = output })
 
 -- what became of the message in the slot, which `mail` shows without change
 abbrev pub mail_of : Both → Mail

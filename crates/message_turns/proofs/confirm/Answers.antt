@@ -1,5 +1,5 @@
 -- `message_turns::confirm` meets its contract.
-use Rattle.laws.specs.Usual.{ap, ◌∙◌, rules}
+use Rattle.laws.specs.Usual.{ap, ◌∙◌}
 use Rattle.message_places.specs.Outgoing.{messages_of}
 use Rattle.message_places.specs.declared.Outgoing.{Outgoing}
 use Rattle.message_rules.specs.Rules.Again.{turned}

@@ -1,6 +1,6 @@
 -- `message_turns::tick` meets its contract.
 use Rattle.std.specs.Prelude.{◌≡◌}
-use Rattle.laws.specs.Usual.{sym, ap, ◌∙◌, Bool, false, rules}
+use Rattle.laws.specs.Usual.{sym, ap, ◌∙◌, Bool, false}
 use Rattle.laws.specs.Tests.{neither_first, neither_second}
 use Rattle.message_places.specs.Outgoing.{messages_of}
 use Rattle.message_places.specs.Places.{outgoing_in}

@@ -1,5 +1,5 @@
 -- `message_turns::turn` meets its contract.
-use Rattle.laws.specs.Usual.{sym, ap, ◌∙◌, Bool, rules}
+use Rattle.laws.specs.Usual.{sym, ap, ◌∙◌, Bool}
 use Rattle.message_places.specs.Outgoing.{messages_of}
 use Rattle.message_places.specs.Places.{outgoing_in}
 use Rattle.message_places.specs.declared.Outgoing.{Outgoing}

@@ -1,6 +1,0 @@
--- `message_sources::register` meets its contract.
-use Rattle.laws.specs.Usual.{refl, rules}
-use Rattle.message_sources.proofs.register.Goals as goal
-
-pub returns : goal.returns
-returns c = record { versions_after = refl; one_to_one_after = refl; to_all_after = refl }
