@@ -9,7 +9,6 @@ use Rattle.laws.specs.Usual.{sym, ap, subst, ◌∙◌, List, [], ℕ, arith, le
 use Rattle.std.specs.declared.option.Option.{Option}
 use Rattle.settle_input.specs.Input.{read_of}
 use Rattle.settle_input.specs.Prefix.{read_prefix}
-use Rattle.settle_input.specs.declared.Reading.{Reading}
 use Rattle.settle_rest.specs.Whole.{answer_lines, output_of}
 
 front_output : (size count : ℕ) (front rest : List ℕ) → 2040 ≤ size → count ≡ length front → (count < size → rest ≡ []) → output_of front ≡ output_of (front ++ rest)
@@ -18,7 +17,7 @@ front_output size count front rest room all end = by (dec_lt count size)
     by : Dec (count < size) → output_of front ≡ output_of (front ++ rest)
     by (yes less) = ap output_of (sym (append-nil front) ∙ ap (λ (l : List ℕ). front ++ l) (sym (end less)))
     by (no enough) =
-        ap (λ (r : Reading). answer_lines r.verdict r.ring)
+        ap answer_lines
         (ap read_of (sym (take-append_seam front rest)) ∙ read_prefix (length front) (front ++ rest) (omega arith))
 
 -- so what holds of the output of what was read holds of the output of all that can be read

@@ -1,13 +1,15 @@
 -- How far the loops over numbers are. Assumes nothing.
-use Rattle.std.specs.Prelude.{◌≡◌, ◌||◌, ◌∷◌, ◌+◌, ◌-◌, ◌<◌, ◌≤◌}
-use Rattle.laws.specs.Usual.{[], refl, sym, ap, ◌∙◌, Bool, true, false, cond, List, ℕ, suc, min, arith, length, get_or, take, drop, set, replicate, eqb, ltb}
+use Rattle.std.specs.Prelude.{◌≡◌, ◌∷◌, ◌++◌, ◌+◌, ◌<◌, ◌≤◌}
+use Rattle.laws.specs.Usual.{[], refl, sym, ap, ◌∙◌, Bool, true, false, cond, not, List, map, ℕ, suc, min, arith, length, get_or, take, drop, set, replicate, eqb}
 use Rattle.std.proofs.Math.Numerals.{add-one}
 use Rattle.std.proofs.Math.Decide.{ℕ_discrete}
-use Rattle.std.proofs.Common.{eq-eqb, ne_eqb, drop_of_length-le, drop-cons, take_all}
+use Rattle.std.proofs.Common.{drop-cons, append-nil, zero-add, eq-eqb, ne_eqb, drop_of_length-le, take_all}
 use Rattle.std.proofs.Math.ListN.{length-set}
 use Rattle.std.proofs.lemmas.List.{get_or-replicate}
 use Rattle.std.proofs.Math.Seq.{take-suc, length-take-le, get_or-set_same, get_or-set_other}
-use Rattle.settle_views.specs.Loops.{views_from, views_end, views_skip, views_first}
+use Rattle.std.specs.List.{filter}
+use Rattle.settle_views.specs.Views.{stations_from}
+use Rattle.settle_views.proofs.Searches.{listed_views}
 use Rattle.settle_moves.specs.Moves.{each}
 use Rattle.settle_moves.specs.Each.{is_each}
 use Rattle.settle_counts.specs.Counts.{count_in, above_zero, sum_of, most, carried_numbers}
@@ -26,34 +28,68 @@ module _ (numbers : List ℕ) (i : ℕ) where
   pub above_some : i < length numbers → ¬ (get_or numbers i 0 ≡ 0) → above_zero (drop i numbers) ≡ suc (above_zero (drop (i + 1) numbers))
   above_some h n = rw (add-one, drop-cons numbers i 0, ne_eqb _ _ n)
 
-pub counting_none : (views : List ℕ) → length views ≡ 256 → Counting views (replicate 256 0) 256
-counting_none views all = record {
+-- one view more at the end
+count_push : (view : ℕ) (l : List ℕ) (x : ℕ) → count_in view (l ++ (x ∷ [])) ≡ count_in view l + cond (eqb x view) 1 0
+count_push view [] x = by (eqb x view)
+  where
+    by : (t : Bool) → cond t 1 0 ≡ 0 + cond t 1 0
+    by true = refl
+    by false = refl
+count_push view (y ∷ l) x = by (eqb y view) (count_push view l x)
+  where
+    by : (t : Bool) → count_in view (l ++ (x ∷ [])) ≡ count_in view l + cond (eqb x view) 1 0
+        → cond t (suc (count_in view (l ++ (x ∷ [])))) (count_in view (l ++ (x ∷ []))) ≡ cond t (suc (count_in view l)) (count_in view l) + cond (eqb x view) 1 0
+    by true e = omega (arith, e)
+    by false e = e
+
+abbrev listed : List ℕ → List ℕ
+listed views = filter (λ v. not (eqb v 0)) views
+
+listed_push : (views : List ℕ) (x : ℕ) → listed (views ++ (x ∷ [])) ≡ listed views ++ cond (eqb x 0) [] (x ∷ [])
+listed_push [] x = by (eqb x 0)
+  where
+    by : (t : Bool) → cond (not t) (x ∷ []) [] ≡ cond t [] (x ∷ [])
+    by true = refl
+    by false = refl
+listed_push (y ∷ views) x = by (eqb y 0) (listed_push views x)
+  where
+    by : (t : Bool) → listed (views ++ (x ∷ [])) ≡ listed views ++ cond (eqb x 0) [] (x ∷ [])
+        → cond (not t) (y ∷ listed (views ++ (x ∷ []))) (listed (views ++ (x ∷ []))) ≡ cond (not t) (y ∷ listed views) (listed views) ++ cond (eqb x 0) [] (x ∷ [])
+    by true e = e
+    by false e = ap (λ (l : List ℕ). y ∷ l) e
+
+pub counting_none : (views : List ℕ) → Counting views (replicate 256 0) 0
+counting_none views = record {
   long = refl;
-  counts = λ view low. get_or-replicate 256 view 0 0 low ∙ ap (count_in view) (sym (views_end views 256 (omega arith)));
+  counts = λ view low. get_or-replicate 256 view 0 0 low;
   few = λ view low. omega (arith, get_or-replicate {A = ℕ} 256 view 0 0 low);
 }
 
-module _ {views numbers : List ℕ} {station : ℕ} (all : length views ≡ 256) (some : 0 < station) (inside : station ≤ 256) (c : Counting views numbers station) where
-  back : station - 1 + 1 ≡ station
-  back = omega arith
+module _ {views numbers : List ℕ} {station : ℕ} (inside : station < length views) (c : Counting views numbers station) where
+  own : ℕ
+  own = get_or views station 0
 
-  pub counting_skip : get_or views (station - 1) 0 ≡ 0 → Counting views numbers (station - 1)
+  front : listed (take (station + 1) views) ≡ listed (take station views) ++ cond (eqb own 0) [] (own ∷ [])
+  unfolding own
+  front = ap (λ (k : ℕ). listed (take k views)) (add-one station) ∙ ap listed (take-suc views station 0 inside) ∙ listed_push (take station views) (get_or views station 0)
+
+  pub counting_skip : get_or views station 0 ≡ 0 → Counting views numbers (station + 1)
+  unfolding own
   counting_skip z = record {
     long = c.long;
-    counts = λ view low. c.counts view low ∙ ap (count_in view) (sym (views_skip views (station - 1) (omega arith) z ∙ ap (views_from views) back));
+    counts = λ view low. c.counts view low ∙ ap (count_in view) (sym (front ∙ ap (λ (l : List ℕ). listed (take station views) ++ l) (rw (eq-eqb own 0 z) refl) ∙ append-nil (listed (take station views))));
     few = λ view low. omega (arith, c.few view low);
   }
 
-  module _ (n : ¬ (get_or views (station - 1) 0 ≡ 0)) (octet : get_or views (station - 1) 0 < 256) where
-    own : ℕ
-    own = get_or views (station - 1) 0
-
+  module _ (n : ¬ (get_or views station 0 ≡ 0)) (octet : get_or views station 0 < 256) where
     with_own : List ℕ
     with_own = set numbers own (get_or numbers own 0 + 1)
 
-    front : views_from views (station - 1) ≡ own ∷ views_from views station
+    counted : (view : ℕ) → count_in view (listed (take (station + 1) views)) ≡ count_in view (listed (take station views)) + cond (eqb own view) 1 0
     unfolding own
-    front = views_first views (station - 1) (omega arith) n ∙ ap (λ (i : ℕ). get_or views (station - 1) 0 ∷ views_from views i) back
+    counted view =
+        ap (count_in view) (front ∙ ap (λ (l : List ℕ). listed (take station views) ++ l) (rw (ne_eqb own 0 n) refl))
+        ∙ count_push view (listed (take station views)) own
 
     at_own : get_or with_own own 0 ≡ get_or numbers own 0 + 1
     unfolding with_own own
@@ -63,32 +99,31 @@ module _ {views numbers : List ℕ} {station : ℕ} (all : length views ≡ 256)
     unfolding with_own
     at_other view o = get_or-set_other numbers own view (get_or numbers own 0 + 1) 0 o
 
-    pub counting_more : Counting views (set numbers (get_or views (station - 1) 0) (get_or numbers (get_or views (station - 1) 0) 0 + 1)) (station - 1)
+    pub counting_more : Counting views (set numbers (get_or views station 0) (get_or numbers (get_or views station 0) 0 + 1)) (station + 1)
     unfolding with_own own
     counting_more = record {
       long = length-set numbers own (get_or numbers own 0 + 1) ∙ c.long;
-      counts = λ view low. by view low (ℕ_discrete view own) ∙ ap (count_in view) (sym front);
+      counts = λ view low. by view low (ℕ_discrete view own) ∙ sym (counted view);
       few = λ view low. less view low (ℕ_discrete view own);
     }
       where
-        by : (view : ℕ) → view < 256 → Dec (view ≡ own) → get_or with_own view 0 ≡ count_in view (own ∷ views_from views station)
+        by : (view : ℕ) → view < 256 → Dec (view ≡ own) → get_or with_own view 0 ≡ count_in view (listed (take station views)) + cond (eqb own view) 1 0
         by view low (yes e) =
-            ap (λ (k : ℕ). get_or with_own k 0) e
-            ∙ at_own
-            ∙ add-one (get_or numbers own 0)
-            ∙ ap (λ (k : ℕ). suc (get_or numbers k 0)) (sym e)
-            ∙ ap suc (c.counts view low)
-            ∙ sym (rw (eq-eqb own view (sym e)))
-        by view low (no o) = at_other view o ∙ c.counts view low ∙ sym (rw (ne_eqb own view (λ e. o (sym e))))
+            let one : ◌≡◌ {A = ℕ} (cond (eqb own view) 1 0) 1 = rw (eq-eqb own view (sym e)) refl in
+            omega (arith, ap (λ (k : ℕ). get_or with_own k 0) e, at_own, ap (λ (k : ℕ). get_or numbers k 0) e, c.counts view low, one)
+        by view low (no o) =
+            let none : ◌≡◌ {A = ℕ} (cond (eqb own view) 1 0) 0 = rw (ne_eqb own view (λ e. o (sym e))) refl in
+            omega (arith, at_other view o, c.counts view low, none)
 
-        less : (view : ℕ) → view < 256 → Dec (view ≡ own) → get_or with_own view 0 + (station - 1) ≤ 256
+        less : (view : ℕ) → view < 256 → Dec (view ≡ own) → get_or with_own view 0 ≤ station + 1
         less view low (yes e) = omega (arith, ap (λ (k : ℕ). get_or with_own k 0) e, at_own, c.few own octet)
         less view low (no o) = omega (arith, at_other view o, c.few view low)
 
-pub counting_all : {views numbers : List ℕ} {station : ℕ} → station ≡ 0 → Counting views numbers station
-    → numbers ≡ each (λ view. count_in view (views_from views 0)) 0 256
-counting_all {views} {numbers} z c =
-    is_each (λ view. count_in view (views_from views 0)) 256 numbers c.long (λ view low. c.counts view low ∙ ap (λ (i : ℕ). count_in view (views_from views i)) z)
+pub counting_all : {views numbers : List ℕ} {station : ℕ} → length views ≤ station → Counting views numbers station
+    → numbers ≡ each (λ view. count_in view (map (λ x. get_or views x 0) (stations_from 0 views))) 0 256
+counting_all {views} {numbers} {station} all c =
+    is_each (λ view. count_in view (map (λ x. get_or views x 0) (stations_from 0 views))) 256 numbers c.long
+    (λ view low. c.counts view low ∙ ap (λ (l : List ℕ). count_in view (filter (λ v. not (eqb v 0)) l)) (take_all station views all) ∙ ap (count_in view) (sym (listed_views (λ x. get_or views x 0) 0 views (λ j. ap (λ (x : ℕ). get_or views x 0) (zero-add j)))))
 
 pub taking_none : (from to : ℕ) (old : List ℕ) → length old ≡ 256 → Taking from to old old 0 1
 taking_none from to old all = record {
@@ -105,56 +140,6 @@ taking_none from to old all = record {
 
     first : (i : ℕ) → i ≡ 0 → get_or old i 0 ≡ cond (is_moved from to i) 0 (get_or old i 0)
     first i z = rw (eq-eqb i 0 z)
-
-module _ {from to : ℕ} {old new : List ℕ} {moved view : ℕ} (all : length old ≡ 256) (some : 1 ≤ view) (low : view < 256) (t : Taking from to old new moved view) where
-  same : (eqb view from || ltb to view) ≡ is_moved from to view
-  same = sym (rw (ne_eqb view 0 (λ z. omega arith)))
-
-  next : sum_of (is_moved from to) view (drop view old)
-      ≡ cond (is_moved from to view) (get_or old view 0 + sum_of (is_moved from to) (view + 1) (drop (view + 1) old)) (sum_of (is_moved from to) (view + 1) (drop (view + 1) old))
-  next = rw (add-one, drop-cons old view 0 (omega arith))
-
-  pub taking_stays : (eqb view from || ltb to view) ≡ false → Taking from to old new moved (view + 1)
-  taking_stays off = record {
-    long = t.long;
-    sum = ap (λ (k : ℕ). moved + k) (sym (next ∙ ap (λ (t : Bool). cond t (get_or old view 0 + rest) rest) on)) ∙ t.sum;
-    before = λ i h. by i h (ℕ_discrete i view);
-    after = λ i h. t.after i (omega arith);
-    few = omega (arith, t.few);
-  }
-    where
-      rest : ℕ
-      rest = sum_of (is_moved from to) (view + 1) (drop (view + 1) old)
-
-      on : is_moved from to view ≡ false
-      on = sym same ∙ off
-
-      by : (i : ℕ) → i < view + 1 → Dec (i ≡ view) → get_or new i 0 ≡ cond (is_moved from to i) 0 (get_or old i 0)
-      by i h (yes e) = t.after i (omega arith) ∙ sym (ap (λ (t : Bool). cond t 0 (get_or old i 0)) (ap (is_moved from to) e ∙ on))
-      by i h (no n) = t.before i (omega arith)
-
-  pub taking_moves : get_or new view 0 ≤ 65535 → (eqb view from || ltb to view) ≡ true
-      → Taking from to old (set new view 0) (moved + get_or new view 0) (view + 1)
-  taking_moves small on = record {
-    long = length-set new view 0 ∙ t.long;
-    sum = omega (arith, next ∙ ap (λ (t : Bool). cond t (get_or old view 0 + rest) rest) off, t.sum, t.after view (omega arith));
-    before = λ i h. by i h (ℕ_discrete i view);
-    after = λ i h. get_or-set_other new view i 0 0 (λ e. omega arith) ∙ t.after i (omega arith);
-    few = omega (arith, t.few, small);
-  }
-    where
-      rest : ℕ
-      rest = sum_of (is_moved from to) (view + 1) (drop (view + 1) old)
-
-      off : is_moved from to view ≡ true
-      off = sym same ∙ on
-
-      by : (i : ℕ) → i < view + 1 → Dec (i ≡ view) → get_or (set new view 0) i 0 ≡ cond (is_moved from to i) 0 (get_or old i 0)
-      by i h (yes e) =
-          ap (λ (k : ℕ). get_or (set new view 0) k 0) e
-          ∙ get_or-set_same new view 0 0 (omega (arith, t.long))
-          ∙ sym (ap (λ (t : Bool). cond t 0 (get_or old i 0)) (ap (is_moved from to) e ∙ off))
-      by i h (no n) = get_or-set_other new view i 0 0 n ∙ t.before i (omega arith)
 
 pub taking_all : {from to : ℕ} {old new : List ℕ} {moved view : ℕ} → length old ≡ 256 → view ≡ 256 → Taking from to old new moved view
     → (moved ≡ sum_of (is_moved from to) 0 old) × (new ≡ without_moved from to old)

@@ -1,8 +1,6 @@
 -- The count of a view after every view has gone elsewhere, from the counts before. Assumes nothing.
 use Rattle.std.specs.Prelude.{◌<◌}
-use Rattle.laws.specs.Usual.{[], List, ℕ}
-use mathlib.Core.List.Memᴰ
-use Prim.Native.Nat.{zero}
+use Rattle.laws.specs.Usual.{List, ℕ}
 use Rattle.settling.specs.Ring.{◌∈◌}
 
 -- every number of a list is an octet

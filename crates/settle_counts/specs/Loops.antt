@@ -1,15 +1,15 @@
 -- How far the loops over numbers are. Assumes nothing.
 use Rattle.std.specs.Prelude.{◌≡◌, ◌+◌, ◌*◌, ◌<◌, ◌≤◌}
-use Rattle.laws.specs.Usual.{[], cond, List, ℕ, min, length, get_or, take, drop, eqb}
-use Rattle.settle_views.specs.Loops.{views_from}
+use Rattle.laws.specs.Usual.{cond, not, List, ℕ, min, length, get_or, take, drop, eqb}
+use Rattle.std.specs.List.{filter}
 use Rattle.settle_counts.specs.Counts.{count_in, sum_of, most}
 use Rattle.settle_counts.specs.Passing.{is_moved}
 
--- the stations from `station` on are counted
+-- the stations among the first `station` numbers are counted
 pub record Counting (views numbers : List ℕ) (station : ℕ) : Type 0 where
   pub long : length numbers ≡ 256
-  pub counts : (view : ℕ) → view < 256 → get_or numbers view 0 ≡ count_in view (views_from views station)
-  pub few : (view : ℕ) → view < 256 → get_or numbers view 0 + station ≤ 256
+  pub counts : (view : ℕ) → view < 256 → get_or numbers view 0 ≡ count_in view (filter (λ v. not (eqb v 0)) (take station views))
+  pub few : (view : ℕ) → view < 256 → get_or numbers view 0 ≤ station
 
 -- the moved views below `view` are taken away
 pub record Taking (from to : ℕ) (old new : List ℕ) (moved view : ℕ) : Type 0 where

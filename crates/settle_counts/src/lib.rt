@@ -21,42 +21,28 @@ fn above_zero(numbers: &[u16]) -> u32
     requires { length numbers.now ≤ 256 }
     ensures { result ≡ above_zero numbers.now }
 {
+    // A count of 32 bits is made in wide steps; filter and count, in 64 bits, was built without them.
     let mut total: u32 = 0;
-    let mut view: usize = 0;
-    while view < numbers.len() {
-        let number = numbers[view];
-        view += 1;
-        if number != 0 {
+    for number in numbers {
+        if *number != 0 {
             total += 1;
         }
     }
     total
 }
 
-// Counts the stations of each view, from the last station to the first.
+// Counts the stations of each view.
 pub fn count(ring: Ring) -> Counts
     ensures { result ≡ counts_of ring }
 {
-    let views = ring.views;
     let mut numbers = [0u16; 256];
-    let mut station: usize = 256;
-    while 0 < station {
-        station -= 1;
-        let view = views[station] as usize;
+    for view in ring.views {
         if view != 0 {
-            numbers[view] += 1;
+            numbers[view as usize] += 1;
         }
     }
     let total = above_zero(&numbers);
     Counts { numbers, total }
-}
-
-fn sum(number: u16, more: u32) -> u16
-    requires { more ≤ 256 * most }
-    ensures { result ≡ min most (number + more) }
-{
-    let sum = number as u32 + more;
-    if sum < 65535 { sum as u16 } else { 65535 }
 }
 
 // Takes away the numbers of the views that a pass moves, and answers their sum.
@@ -67,13 +53,10 @@ fn take_moved(numbers: &mut [u16], from: usize, to: usize) -> u32
     ensures upper_bound { result ≤ 256 * most }
 {
     let mut moved: u32 = 0;
-    let mut view: usize = 1;
-    while view < numbers.len() {
-        let here = view;
-        view += 1;
-        if (here == from) | (to < here) {
-            moved += numbers[here] as u32;
-            numbers[here] = 0;
+    for view in 1..numbers.len() {
+        if (view == from) | (to < view) {
+            moved += numbers[view] as u32;
+            numbers[view] = 0;
         }
     }
     moved
@@ -85,7 +68,8 @@ fn pass(numbers: &mut [u16], from: u8, to: u8) -> u32
     ensures numbers_after { numbers.new ≡ carried_numbers (λ view. passed_view view from to) numbers.old }
 {
     let moved = take_moved(numbers, from as usize, to as usize);
-    numbers[to as usize] = sum(numbers[to as usize], moved);
+    let sum = numbers[to as usize] as u32 + moved;
+    numbers[to as usize] = sum.min(65535) as u16;
     above_zero(numbers)
 }
 
@@ -104,11 +88,9 @@ fn carry(old: [u16; 256], moves: &[u8]) -> [u16; 256]
     ensures len { length old ≡ 256 }
 {
     let mut numbers = [0u16; 256];
-    let mut view: usize = 0;
-    while view < 256 {
+    for view in 0..256usize {
         let to = moves[view] as usize;
-        numbers[to] = sum(numbers[to], old[view] as u32);
-        view += 1;
+        numbers[to] = numbers[to].saturating_add(old[view]);
     }
     numbers
 }

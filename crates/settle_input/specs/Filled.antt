@@ -1,7 +1,7 @@
 -- What the forms of all lines leave in the ring: the stations of the lines, in their order, and the views of the lines. Assumes nothing.
-use Rattle.laws.specs.Usual.{refl, sym, ap, ap₂, ◌∙◌, Bool, true, false, cond, List, [], map, ℕ, suc, arith, length, get_or, set, replicate, eqb}
+use Rattle.laws.specs.Usual.{refl, sym, ap, ap₂, subst, ◌∙◌, Bool, true, false, cond, List, [], map, ℕ, suc, arith, length, get_or, set, replicate, eqb}
 use mathlib.Core.List.{append-nil, append_assoc, head-eq_of_cons-eq, tail-eq_of_cons-eq}
-use Rattle.std.specs.Prelude.{◌≡◌, ◌∷◌, ◌++◌, ◌+◌, ◌<◌, ◌≤◌, zero}
+use Rattle.std.specs.Prelude.{◌≡◌, ◌∷◌, ◌++◌, ◌+◌, ◌<◌, ◌≤◌, zero, Option, Some, Ok}
 use Rattle.std.proofs.Common.{add-zero, zero-add, eq-eqb, ne_eqb, lt-ltb, le-ltb, length-set}
 use Rattle.std.proofs.Math.Decide.{dec_lt}
 use Rattle.std.proofs.lemmas.List.{get_or-replicate}
@@ -10,8 +10,10 @@ use Rattle.std.proofs.Math.Seq.{get_or-set_same, get_or-set_other}
 use Rattle.settle_views.specs.Views.{stations_from, stations_of, views_of, member, first_unlisted, unlisted_in}
 use Rattle.settle_views.specs.Proper.{listed_member}
 use Rattle.settle_views.specs.declared.Ring.{Ring}
+use Rattle.text.specs.Lines.{comma, line_feed}
+use Rattle.text_reading.specs.Marks.{up_to, behind}
 use Rattle.settle_input.specs.Input.{lines_of, station_in, view_in, forms_from, forms_of, unlisted_from, unlisted_of}
-use Rattle.settle_input.specs.Short.{formed, station_most}
+use Rattle.settle_input.specs.Short.{number_in_lem, formed, station_most}
 
 -- no station is listed from a place on
 abbrev NoneFrom : List ℕ → ℕ → Type 0
@@ -52,7 +54,7 @@ module _ (below : ℕ) (views line : List ℕ) (all : length views ≡ 256) (non
   inside = omega (arith, station_most line)
 
   a_view : ¬ (view_in line ≡ 0)
-  a_view z = let f = formed line (λ e. omega arith) in f.view_number (sym f.view_is ∙ z)
+  a_view z = let f = formed line (λ e. omega arith) in omega (arith, (number_in_lem (up_to line_feed (behind comma line)) (view_in line) f.view_is).1)
 
   none_with : NoneFrom with_line (suc (station_in line))
   unfolding with_line
@@ -71,23 +73,24 @@ module _ (below : ℕ) (views line : List ℕ) (all : length views ≡ 256) (non
           set_station 0 views (station_in line) (view_in line) a_view inside (λ i h. none i (omega arith))
           ∙ ap (λ (x : ℕ). stations_from 0 views ++ (x ∷ [])) (zero-add (station_in line))
 
-filled : (number below : ℕ) (views : List ℕ) (lines : List (List ℕ)) → length views ≡ 256 → NoneFrom views (suc below)
-    → (forms_from (suc number) below views lines).bad ≡ 0 → Filled below views lines (forms_from (suc number) below views lines).ring
+filled : (number below : ℕ) (views : List ℕ) (lines : List (List ℕ)) (ring : Ring) → length views ≡ 256 → NoneFrom views (suc below)
+    → forms_from number below views lines ≡ Ok ring → Filled below views lines ring
 unfolding forms_from with_line
-filled number below views [] all none e = record { stations = sym (append-nil (stations_from 0 views)); views_same = refl; kept = λ x h. refl }
-filled number below views (line ∷ lines) all none e =
-    go (dec_lt below (station_in line)) (filled (suc number) (station_in line) (set views (station_in line) (view_in line)) lines)
+filled number below views [] ring all none e =
+    let same : record { views = views } ≡ ring = cc in
+    subst (Filled below views []) same (record { stations = sym (append-nil (stations_from 0 views)); views_same = refl; kept = λ x h. refl })
+filled number below views (line ∷ lines) ring all none e =
+    go (dec_lt below (station_in line)) (filled (suc number) (station_in line) (set views (station_in line) (view_in line)) lines ring)
   where
     go : Dec (below < station_in line)
         → (length (set views (station_in line) (view_in line)) ≡ 256 → NoneFrom (set views (station_in line) (view_in line)) (suc (station_in line))
-        → (forms_from (suc (suc number)) (station_in line) (set views (station_in line) (view_in line)) lines).bad ≡ 0
-        → Filled (station_in line) (set views (station_in line) (view_in line)) lines (forms_from (suc (suc number)) (station_in line) (set views (station_in line) (view_in line)) lines).ring)
-        → Filled below views (line ∷ lines) (forms_from (suc number) below views (line ∷ lines)).ring
+        → forms_from (suc number) (station_in line) (set views (station_in line) (view_in line)) lines ≡ Ok ring
+        → Filled (station_in line) (set views (station_in line) (view_in line)) lines ring)
+        → Filled below views (line ∷ lines) ring
     go (yes high) rest =
-        rw (lt-ltb below (station_in line) high)
-        (filled_more below views line all none high lines (forms_from (suc (suc number)) (station_in line) (set views (station_in line) (view_in line)) lines).ring
-        (rest (length-set views (station_in line) (view_in line) ∙ all) (none_with below views line all none high) (rw (lt-ltb below (station_in line) high) at e)))
-    go (no low) rest = absurd (omega (arith, rw (le-ltb below (station_in line) (omega arith)) at e))
+        filled_more below views line all none high lines ring
+        (rest (length-set views (station_in line) (view_in line) ∙ all) (none_with below views line all none high) (rw (lt-ltb below (station_in line) high) at e))
+    go (no low) rest = let z = rw (le-ltb below (station_in line) (omega arith)) at e in absurd (cc)
 
 abbrev pub no_views : List ℕ
 no_views = replicate 256 0
@@ -99,12 +102,12 @@ zeros i h = go (dec_lt i 256)
     go (yes l) = get_or-replicate 256 i 0 0 l
     go (no l) = get_or-eq_default no_views 0 {n = i} (omega arith)
 
-pub filled_forms : (octets : List ℕ) → (forms_of octets).bad ≡ 0 → Filled 0 no_views (lines_of octets) (forms_of octets).ring
-filled_forms octets e = filled 0 0 no_views (lines_of octets) refl (λ i h. zeros i (omega arith)) e
+module _ (octets : List ℕ) (ring : Ring) (e : forms_of octets ≡ Ok ring) where
+  pub filled_forms : Filled 0 no_views (lines_of octets) ring
+  filled_forms = filled 1 0 no_views (lines_of octets) ring refl (λ i h. zeros i (omega arith)) e
 
-pub forms_stations : (octets : List ℕ) → (forms_of octets).bad ≡ 0 → stations_of (forms_of octets).ring ≡ map station_in (lines_of octets)
-forms_stations octets e =
-    (filled_forms octets e).stations ∙ ap (λ (l : List ℕ). l ++ map station_in (lines_of octets)) (no_stations 0 no_views zeros)
+  pub forms_stations : stations_of ring ≡ map station_in (lines_of octets)
+  forms_stations = filled_forms.stations ∙ ap (λ (l : List ℕ). l ++ map station_in (lines_of octets)) (no_stations 0 no_views zeros)
 
 -- a search over the stations of the ring names the line that a search over the lines names
 same_line : (ring : Ring) (number : ℕ) (lines : List (List ℕ)) → map (views_of ring) (map station_in lines) ≡ map view_in lines
@@ -112,12 +115,11 @@ same_line : (ring : Ring) (number : ℕ) (lines : List (List ℕ)) → map (view
 same_line ring number [] e = refl
 same_line ring number (line ∷ lines) e =
     rw (listed_member ring (views_of ring (station_in line)), head-eq_of_cons-eq e)
-    (ap (λ (k : ℕ). cond (member (view_in line) (stations_of ring)) k number) (same_line ring (suc number) lines (tail-eq_of_cons-eq e)))
+    (ap (λ (rest : Option ℕ). cond (member (view_in line) (stations_of ring)) rest (Some number)) (same_line ring (suc number) lines (tail-eq_of_cons-eq e)))
 
-pub unlisted_line : (octets : List ℕ) → (forms_of octets).bad ≡ 0 → unlisted_in (forms_of octets).ring ≡ unlisted_of octets
-unlisted_line octets e =
-    let ring = (forms_of octets).ring in
-    let stations = forms_stations octets e in
+pub unlisted_line : (octets : List ℕ) (ring : Ring) → forms_of octets ≡ Ok ring → unlisted_in ring ≡ unlisted_of octets
+unlisted_line octets ring e =
+    let stations = forms_stations octets ring e in
     ap (first_unlisted (views_of ring) 1) stations
-    ∙ same_line ring 1 (lines_of octets) (filled_forms octets e).views_same
+    ∙ same_line ring 1 (lines_of octets) (filled_forms octets ring e).views_same
     ∙ ap (λ (ns : List ℕ). unlisted_from ns 1 (lines_of octets)) stations

@@ -1,13 +1,17 @@
 -- Laws of the form of a line, for code that works on parts of it. Assumes nothing.
-use Rattle.std.specs.Prelude.{◌≡◌, ◌&&◌, ◌∷◌, ◌+◌, ◌<◌, ◌≤◌}
-use Rattle.laws.specs.Usual.{refl, sym, ap, ◌∙◌, cond, List, [], ℕ, suc, arith, length, take, ltb}
+use Rattle.std.specs.Prelude.{None, Some, ◌≡◌, ◌∷◌, ◌+◌, ◌<◌, ◌≤◌}
+use Rattle.laws.specs.Usual.{refl, sym, ap, ◌∙◌, cond, List, [], ℕ, suc, arith, length, take, eqb}
 use Rattle.std.proofs.Common.{add-one, length-take, take_all}
 use Rattle.std.proofs.Math.Decide.{dec_lt}
-use borrow.Author.Tests.{lt-ltb, le-ltb}
+use Rattle.std.proofs.Math.Numerals.{one-add}
+use Rattle.std.specs.List.{position_or_len}
+use Rattle.std.proofs.lemmas.List.Recursion.{is_position_or_len}
+use Rattle.std.proofs.lemmas.Option.{cond_some}
+use borrow.Author.Tests.{lt-ltb, le-ltb, ltb-true}
 use Rattle.text.specs.Lines.{comma, line_feed}
 use Rattle.text_reading.proofs.MarkLaws.{before_most}
-use Rattle.text_reading.specs.Marks.{before, up_to, behind}
-use Rattle.settle_input.specs.Input.{number_in, no_entry, entry_of, first_line}
+use Rattle.text_reading.specs.Marks.{before, up_to, behind, has}
+use Rattle.settle_input.specs.Input.{number_in, place_in, entry_with, entry_of, first_line}
 
 pub empty_list : (l : List ℕ) → length l ≤ 0 → l ≡ []
 empty_list [] h = refl
@@ -19,20 +23,18 @@ line_with_end octets h = sym (length-take (suc (before line_feed octets)) octets
 pub line_without_end : (octets : List ℕ) → length octets ≤ before line_feed octets → before line_feed octets ≡ length (first_line octets)
 line_without_end octets h = sym (length-take (suc (before line_feed octets)) octets ∙ omega (arith, before_most line_feed octets))
 
-pub no_comma : (line : List ℕ) → length line ≤ before comma line → no_entry ≡ entry_of line
+pub no_comma : (line : List ℕ) → length line ≤ before comma line → None ≡ entry_of line
 unfolding entry_of
 no_comma line h = rw (le-ltb _ _ h)
 
 module _ (line : List ℕ) (within : before comma line < length line) where
-  pub no_end : length (behind comma line) ≤ before line_feed (behind comma line) → no_entry ≡ entry_of line
+  pub no_end : length (behind comma line) ≤ before line_feed (behind comma line) → None ≡ entry_of line
   unfolding entry_of
   no_end h = rw (lt-ltb _ _ within, le-ltb _ _ h)
 
-  -- the two numbers, where both are numbers
+  -- the two numbers
   pub entry_made : before line_feed (behind comma line) < length (behind comma line)
-      → cond (ltb 0 (number_in (up_to comma line)) && ltb 0 (number_in (up_to line_feed (behind comma line))))
-      (record { station = number_in (up_to comma line); view = number_in (up_to line_feed (behind comma line)) })
-      no_entry ≡ entry_of line
+      → entry_with (number_in (up_to comma line)) (number_in (up_to line_feed (behind comma line))) ≡ entry_of line
   unfolding entry_of
   entry_made h = rw (lt-ltb _ _ within, lt-ltb _ _ h)
 
@@ -48,3 +50,20 @@ first_line_taken octets = go (dec_lt (before line_feed octets) (length octets))
     go (no h) =
         let short : length octets ≤ before line_feed octets = omega arith in
         take_all (length (first_line octets)) octets (omega (arith, line_without_end octets short)) ∙ sym (take_all (suc (before line_feed octets)) octets (omega arith))
+
+-- the place of a mark that was found, and of one that was not
+pub place_some : (mark : ℕ) (octets : List ℕ) (place : ℕ) → place_in mark octets ≡ Some place → (before mark octets ≡ place) × (before mark octets < length octets)
+place_some mark octets place e =
+    let (found, same) = cond_some (has mark octets) (before mark octets) place e in
+    (same, ltb-true (before mark octets) (length octets) found)
+
+pub place_none : (mark : ℕ) (octets : List ℕ) → place_in mark octets ≡ None → length octets ≤ before mark octets
+place_none mark octets e = go (dec_lt (before mark octets) (length octets))
+  where
+    go : Dec (before mark octets < length octets) → length octets ≤ before mark octets
+    go (yes h) = let z = rw (lt-ltb _ _ h) at e in absurd (cc)
+    go (no h) = omega arith
+
+-- the library's search finds the first mark
+pub place_found : (mark : ℕ) (octets : List ℕ) → before mark octets ≡ position_or_len (λ octet. eqb octet mark) octets
+place_found mark octets = is_position_or_len (before mark) (λ octet. eqb octet mark) refl (λ x xs. ap (cond (eqb x mark) 0) (sym (one-add (before mark xs)))) octets

@@ -1,11 +1,11 @@
 -- The lines of the input, one after the other. Assumes nothing.
-use Rattle.std.specs.Prelude.{◌≡◌, ◌∷◌, ◌+◌, ◌<◌, ◌≤◌}
+use Rattle.std.specs.Prelude.{◌≡◌, ◌∷◌, ◌<◌, ◌≤◌}
 use Rattle.laws.specs.Usual.{refl, ap, ◌∙◌, Bool, true, false, cond, List, [], ℕ, suc, arith, length, take, drop, set, eqb}
-use Rattle.std.proofs.Common.{lt-ltb, le-ltb, length-drop, drop-drop}
+use Rattle.std.proofs.Common.{lt-ltb, le-ltb}
 use Rattle.text.specs.Lines.{line_feed}
 use Rattle.text_reading.specs.Marks.{before}
 use Rattle.text_reading.specs.Parts.{in_front}
-use Rattle.settle_input.specs.Input.{lines_of, entry_of, first_line, forms_from, no_ring}
+use Rattle.settle_input.specs.Input.{lines_of, station_in, view_in, first_line, forms_from, bad}
 
 -- some octets are their first line, and the lines of what stands behind it
 pub lines_first : (octets : List ℕ) → 0 < length octets
@@ -35,23 +35,16 @@ pub line_some : (octets : List ℕ) → 0 < length octets → 0 < length (first_
 line_some [] h = absurd (omega arith)
 line_some (octet ∷ octets) h = omega arith
 
--- reading the forms of the lines from a place of the input on
-module _ (number below : ℕ) (views input : List ℕ) (at : ℕ) (h : at < length input) where
-  split : lines_of (drop at input) ≡ first_line (drop at input) ∷ lines_of (drop (at + length (first_line (drop at input))) input)
-  split =
-      lines_first (drop at input) (omega (arith, length-drop at input))
-      ∙ ap (λ (l : List ℕ). first_line (drop at input) ∷ lines_of l) (drop-drop (length (first_line (drop at input))) at input)
-
+-- reading the forms of some lines
+module _ (number below : ℕ) (views octets : List ℕ) (some : 0 < length octets) where
   -- a line whose station is not above those before it is bad
-  pub forms_bad : (entry_of (first_line (drop at input))).station ≤ below
-      → forms_from number below views (lines_of (drop at input)) ≡ record { bad = number; ring = no_ring }
+  pub forms_bad : station_in (first_line octets) ≤ below → forms_from number below views (lines_of octets) ≡ bad number
   unfolding forms_from
-  forms_bad low = ap (forms_from number below views) split ∙ rw (le-ltb _ _ low)
+  forms_bad low = ap (forms_from number below views) (lines_first octets some) ∙ rw (le-ltb _ _ low)
 
-  pub forms_more : below < (entry_of (first_line (drop at input))).station
-      → forms_from number below views (lines_of (drop at input))
-      ≡ forms_from (suc number) (entry_of (first_line (drop at input))).station
-      (set views (entry_of (first_line (drop at input))).station (entry_of (first_line (drop at input))).view)
-      (lines_of (drop (at + length (first_line (drop at input))) input))
+  pub forms_more : below < station_in (first_line octets)
+      → forms_from number below views (lines_of octets)
+      ≡ forms_from (suc number) (station_in (first_line octets)) (set views (station_in (first_line octets)) (view_in (first_line octets)))
+      (lines_of (drop (length (first_line octets)) octets))
   unfolding forms_from
-  forms_more high = ap (forms_from number below views) split ∙ rw (lt-ltb _ _ high)
+  forms_more high = ap (forms_from number below views) (lines_first octets some) ∙ rw (lt-ltb _ _ high)

@@ -1,5 +1,5 @@
 -- The numbers and lines that are read are those that `text` writes, and no others. Assumes nothing.
-use Rattle.std.specs.Prelude.{◌≡◌, ◌∷◌, ◌++◌, ◌+◌, ◌<◌, ◌≤◌}
+use Rattle.std.specs.Prelude.{Some, ◌≡◌, ◌∷◌, ◌++◌, ◌+◌, ◌<◌, ◌≤◌}
 use Rattle.laws.specs.Usual.{refl, sym, ap, ap₂, subst, ◌∙◌, List, [], ℕ, suc, arith, length}
 use Rattle.std.proofs.Common.{append_assoc, append-nil, lt-ltb, length-drop}
 use Rattle.text.specs.Decimal.{decimal_of}
@@ -7,22 +7,22 @@ use Rattle.text.specs.Lines.{comma, line_feed, line_of}
 use Rattle.text_reading.proofs.MarkLaws.{before_behind, before_front, has_mark, up_to_lem, behind_it, split_mark}
 use Rattle.text_reading.specs.Marks.{before, up_to, behind}
 use Rattle.text_reading.proofs.Told.{number_unmarked, number_told, told_number}
-use Rattle.text_reading.specs.Values.{number_or}
-use Rattle.settle_input.specs.Input.{number_in, entry_of, first_line}
+use Rattle.std.specs.Option.{option_and_then}
+use Rattle.settle_input.specs.Input.{from_one, number_in, entry_of, station_in, view_in, first_line}
 use Rattle.settle_input.specs.Short.{number_in_lem, formed, short_line}
 use Rattle.settle_input.specs.Form.{empty_list, line_with_end, entry_made}
 
 -- octets that are read as a number are that number in decimal
-pub text_number : (octets : List ℕ) → ¬ (number_in octets ≡ 0) → decimal_of (number_in octets) ≡ octets
-text_number octets n = number_told 254 (number_in octets) octets (omega arith) (number_in_lem octets n)
+pub text_number : (octets : List ℕ) (n : ℕ) → number_in octets ≡ Some n → decimal_of n ≡ octets
+text_number octets n e = number_told 254 n octets (omega arith) (number_in_lem octets n e).0
 
 -- each number of 1 to 254 in decimal is read as that number, and has no comma and no line feed in it
 pub number_text : (number : ℕ) → 1 ≤ number → number ≤ 254
-    → (number_in (decimal_of number) ≡ number) × (before comma (decimal_of number) ≡ length (decimal_of number))
+    → (number_in (decimal_of number) ≡ Some number) × (before comma (decimal_of number) ≡ length (decimal_of number))
     × (before line_feed (decimal_of number) ≡ length (decimal_of number))
 number_text number some low =
     let read = told_number 254 number (omega arith) low in
-    (ap (number_or 0) read, number_unmarked 254 number comma (decimal_of number) refl read, number_unmarked 254 number line_feed (decimal_of number) refl read)
+    (ap (option_and_then from_one) read ∙ rw (lt-ltb 0 number some), number_unmarked 254 number comma (decimal_of number) refl read, number_unmarked 254 number line_feed (decimal_of number) refl read)
 
 -- the line of a station and its view
 abbrev pub entry_line : ℕ → ℕ → List ℕ
@@ -36,7 +36,7 @@ written_line station view =
 
 -- such a line is read as its station and view
 pub line_read : (station view : ℕ) → 1 ≤ station → station ≤ 254 → 1 ≤ view → view ≤ 254
-    → entry_of (entry_line station view) ≡ record { station = station; view = view }
+    → entry_of (entry_line station view) ≡ Some (record { station = station; view = view })
 line_read station view a b c d =
     let (station_is, no_comma, _) = number_text station a b in
     let (view_is, _, no_feed) = number_text view c d in
@@ -44,14 +44,14 @@ line_read station view a b c d =
     let line = entry_line station view in
     let after : behind comma line ≡ rest = behind_it comma (decimal_of station) rest no_comma in
     let ended = subst (λ (l : List ℕ). before line_feed l < length l) (sym after) (has_mark line_feed (decimal_of view) [] no_feed) in
-    let s : number_in (up_to comma line) ≡ station = ap number_in (up_to_lem comma (decimal_of station) rest no_comma) ∙ station_is in
-    let v : number_in (up_to line_feed (behind comma line)) ≡ view =
+    let s : number_in (up_to comma line) ≡ Some station = ap number_in (up_to_lem comma (decimal_of station) rest no_comma) ∙ station_is in
+    let v : number_in (up_to line_feed (behind comma line)) ≡ Some view =
     ap (λ (l : List ℕ). number_in (up_to line_feed l)) after ∙ ap number_in (up_to_lem line_feed (decimal_of view) [] no_feed) ∙ view_is in
-    sym (entry_made line (has_mark comma (decimal_of station) rest no_comma) ended) ∙ rw (s, v, lt-ltb 0 station a, lt-ltb 0 view c)
+    sym (entry_made line (has_mark comma (decimal_of station) rest no_comma) ended) ∙ rw (s, v)
 
 -- and a first line that is read as a station and a view is that line
-pub read_line : (octets : List ℕ) → ¬ ((entry_of (first_line octets)).station ≡ 0)
-    → first_line octets ≡ entry_line (entry_of (first_line octets)).station (entry_of (first_line octets)).view
+pub read_line : (octets : List ℕ) → ¬ (station_in (first_line octets) ≡ 0)
+    → first_line octets ≡ entry_line (station_in (first_line octets)) (view_in (first_line octets))
 read_line octets n =
     let line = first_line octets in
     let rest = behind comma line in
@@ -65,5 +65,5 @@ read_line octets n =
     split_mark comma line f.comma_in
     ∙ ap (λ (l : List ℕ). up_to comma line ++ comma ∷ l) (split_mark line_feed rest f.end_in ∙ ap (λ (l : List ℕ). up_to line_feed rest ++ line_feed ∷ l) (empty_list (behind line_feed rest) end))
     ∙ ap₂ (λ (s v : List ℕ). s ++ comma ∷ (v ++ line_feed ∷ []))
-    (sym (ap decimal_of f.station_is ∙ text_number (up_to comma line) f.station_number))
-    (sym (ap decimal_of f.view_is ∙ text_number (up_to line_feed rest) f.view_number))
+    (sym (text_number (up_to comma line) _ f.station_is))
+    (sym (text_number (up_to line_feed rest) _ f.view_is))

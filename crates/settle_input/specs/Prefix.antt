@@ -1,14 +1,17 @@
 -- The answer for an input of any size is the answer for its first 2,040 octets, or more of them. Assumes nothing.
-use Rattle.laws.specs.Usual.{sym, ap, ◌∙◌, List, [], ℕ, suc, arith, length, take, drop, set, replicate}
-use Rattle.std.specs.Prelude.{◌≡◌, ◌∷◌, ◌+◌, ◌-◌, ◌*◌, ◌<◌, ◌≤◌, zero}
+use Rattle.laws.specs.Usual.{refl, sym, ap, ◌∙◌, List, [], ℕ, suc, arith, length, take, drop, set, replicate}
+use Rattle.std.specs.Prelude.{Option, None, Some, Result, Ok, Err, ◌≡◌, ◌∷◌, ◌+◌, ◌-◌, ◌*◌, ◌<◌, ◌≤◌, zero}
 use Rattle.std.proofs.Common.{zero-add, suc-add, lt-ltb, le-ltb, ne_eqb, take_all, take-take}
 use Rattle.std.proofs.Math.Decide.{dec_le, dec_lt}
 use Rattle.std.proofs.Math.ListN.{length-take, length-drop}
 use Rattle.std.proofs.Math.Seq.{take-nil}
+use Rattle.std.proofs.lemmas.Option.{same_Some}
 use Rattle.text.specs.Lines.{line_feed}
 use Rattle.text_reading.proofs.MarkLaws.{before_front, before_whole}
 use Rattle.text_reading.specs.Marks.{before}
-use Rattle.settle_input.specs.Input.{lines_of, entry_of, forms_from, forms_of, read_of, bad, first_line}
+use Rattle.settle_views.specs.declared.Ring.{Ring}
+use Rattle.settle_input.specs.declared.BadLine.{BadLine}
+use Rattle.settle_input.specs.Input.{lines_of, station_in, view_in, forms_from, forms_of, unlisted_of, listed_in, read_of, first_line}
 use Rattle.settle_input.specs.Form.{empty_list, line_with_end}
 use Rattle.settle_input.specs.Lines.{lines_first}
 use Rattle.settle_input.specs.Short.{short_line, station_most}
@@ -21,11 +24,11 @@ drop_front (suc k) j (x ∷ l) = rw (suc-add k j) (drop_front k j l)
 
 -- the station of the first line
 station_of : List ℕ → ℕ
-station_of octets = (entry_of (first_line octets)).station
+station_of octets = station_in (first_line octets)
 
 -- the views so far with the view of the first line
 abbrev views_with : List ℕ → List ℕ → List ℕ
-views_with views octets = set views (entry_of (first_line octets)).station (entry_of (first_line octets)).view
+views_with views octets = set views (station_in (first_line octets)) (view_in (first_line octets))
 
 station_top : (octets : List ℕ) → station_of octets ≤ 254
 unfolding station_of
@@ -52,17 +55,22 @@ front_same m octets n =
     let (inside, near) = short_line (take m octets) n in
     same_line m octets (omega (arith, before_whole line_feed m octets inside, length-take m octets))
 
+-- the line of bad form, where there is one
+abbrev bad_in : Result Ring BadLine → Option BadLine
+bad_in (Ok ring) = None
+bad_in (Err number) = Some number
+
 -- the bad line that is found, where some lines are left
 module _ (number below : ℕ) (views octets : List ℕ) (some : 0 < length octets) where
-  bad_here : station_of octets ≤ below → (forms_from number below views (lines_of octets)).bad ≡ number
+  bad_here : station_of octets ≤ below → bad_in (forms_from number below views (lines_of octets)) ≡ Some (record { 0 = number })
   unfolding forms_from station_of
-  bad_here low = ap (λ (l : List (List ℕ)). (forms_from number below views l).bad) (lines_first octets some) ∙ rw (le-ltb _ _ low)
+  bad_here low = ap (λ (l : List (List ℕ)). bad_in (forms_from number below views l)) (lines_first octets some) ∙ rw (le-ltb _ _ low)
 
   bad_later : below < station_of octets
-      → (forms_from number below views (lines_of octets)).bad
-      ≡ (forms_from (suc number) (station_of octets) (views_with views octets) (lines_of (rest_of octets))).bad
+      → bad_in (forms_from number below views (lines_of octets))
+      ≡ bad_in (forms_from (suc number) (station_of octets) (views_with views octets) (lines_of (rest_of octets)))
   unfolding forms_from station_of rest_of
-  bad_later high = ap (λ (l : List (List ℕ)). (forms_from number below views l).bad) (lines_first octets some) ∙ rw (lt-ltb _ _ high)
+  bad_later high = ap (λ (l : List (List ℕ)). bad_in (forms_from number below views l)) (lines_first octets some) ∙ rw (lt-ltb _ _ high)
 
   -- a line with an entry, and what is left
   line_length : below < station_of octets → (length octets ≤ 8 + length (rest_of octets)) × (length (rest_of octets) < length octets)
@@ -90,9 +98,9 @@ rest_front m octets h n =
 -- One line, and what the claims below say of what is left behind it.
 module _ (number below : ℕ) (views octets : List ℕ) (some : 0 < length octets) where
   no_bad_step : (length (rest_of octets) < length octets
-      → (forms_from (suc (suc number)) (station_of octets) (views_with views octets) (lines_of (rest_of octets))).bad ≡ 0
+      → bad_in (forms_from (suc (suc number)) (station_of octets) (views_with views octets) (lines_of (rest_of octets))) ≡ None
       → length (rest_of octets) ≤ 8 * (254 - station_of octets))
-      → (forms_from (suc number) below views (lines_of octets)).bad ≡ 0 → length octets ≤ 8 * (254 - below)
+      → bad_in (forms_from (suc number) below views (lines_of octets)) ≡ None → length octets ≤ 8 * (254 - below)
   no_bad_step rest e = go (dec_lt below (station_of octets))
     where
       go : Dec (below < station_of octets) → length octets ≤ 8 * (254 - below)
@@ -100,13 +108,13 @@ module _ (number below : ℕ) (views octets : List ℕ) (some : 0 < length octet
           let (long, less) = line_length (suc number) below views octets some high in
           let left = rest less (sym (bad_later (suc number) below views octets some high) ∙ e) in
           omega (arith, station_top octets)
-      go (no low) = absurd (omega (arith, e, bad_here (suc number) below views octets some (omega arith)))
+      go (no low) = let here = bad_here (suc number) below views octets some (omega arith) in absurd (cc)
 
   bad_front_step : (m : ℕ) → 8 * (254 - below) + 8 ≤ m
       → ((j : ℕ) → length (rest_of octets) < length octets → 8 * (254 - station_of octets) + 8 ≤ j
-      → (forms_from (suc number) (station_of octets) (views_with views octets) (lines_of (take j (rest_of octets)))).bad
-      ≡ (forms_from (suc number) (station_of octets) (views_with views octets) (lines_of (rest_of octets))).bad)
-      → (forms_from number below views (lines_of (take m octets))).bad ≡ (forms_from number below views (lines_of octets)).bad
+      → bad_in (forms_from (suc number) (station_of octets) (views_with views octets) (lines_of (take j (rest_of octets))))
+      ≡ bad_in (forms_from (suc number) (station_of octets) (views_with views octets) (lines_of (rest_of octets))))
+      → bad_in (forms_from number below views (lines_of (take m octets))) ≡ bad_in (forms_from number below views (lines_of octets))
   unfolding station_of
   bad_front_step m room rest = go (dec_lt below (station_of octets))
     where
@@ -114,17 +122,17 @@ module _ (number below : ℕ) (views octets : List ℕ) (some : 0 < length octet
       some_front = omega (arith, length-take m octets)
 
       both : first_line (take m octets) ≡ first_line octets → station_of (take m octets) ≡ station_of octets
-      both e = ap (λ (l : List ℕ). (entry_of l).station) e
+      both e = ap (λ (l : List ℕ). station_in l) e
 
-      go : Dec (below < station_of octets) → (forms_from number below views (lines_of (take m octets))).bad ≡ (forms_from number below views (lines_of octets)).bad
+      go : Dec (below < station_of octets) → bad_in (forms_from number below views (lines_of (take m octets))) ≡ bad_in (forms_from number below views (lines_of octets))
       go (yes high) =
           let n : ¬ (station_of octets ≡ 0) = λ z. omega arith in
           let line = entry_same m octets (omega arith) n in
           let (j, near, left) = rest_front m octets (omega arith) n in
           let (long, less) = line_length number below views octets some high in
           bad_later number below views (take m octets) some_front (omega (arith, both line))
-          ∙ ap (λ (l : List ℕ). (forms_from (suc number) (entry_of l).station (set views (entry_of l).station (entry_of l).view) (lines_of (rest_of (take m octets)))).bad) line
-          ∙ ap (λ (l : List ℕ). (forms_from (suc number) (station_of octets) (views_with views octets) (lines_of l)).bad) left
+          ∙ ap (λ (l : List ℕ). bad_in (forms_from (suc number) (station_in l) (set views (station_in l) (view_in l)) (lines_of (rest_of (take m octets))))) line
+          ∙ ap (λ (l : List ℕ). bad_in (forms_from (suc number) (station_of octets) (views_with views octets) (lines_of l))) left
           ∙ rest j less (omega (arith, station_top octets))
           ∙ sym (bad_later number below views octets some high)
       go (no low) =
@@ -137,14 +145,14 @@ module _ (number below : ℕ) (views octets : List ℕ) (some : 0 < length octet
 
 -- An input with no line of bad form has at most 8 octets for each number that a station can still have.
 no_bad : (fuel number below : ℕ) (views octets : List ℕ) → length octets < fuel
-    → (forms_from (suc number) below views (lines_of octets)).bad ≡ 0 → length octets ≤ 8 * (254 - below)
+    → bad_in (forms_from (suc number) below views (lines_of octets)) ≡ None → length octets ≤ 8 * (254 - below)
 no_bad zero number below views octets h e = absurd (omega arith)
 no_bad (suc fuel) number below views octets h e = go (dec_lt 0 (length octets))
     (λ less. no_bad fuel (suc number) (station_of octets) (views_with views octets) (rest_of octets) (omega arith))
   where
     go : Dec (0 < length octets)
         → (length (rest_of octets) < length octets
-        → (forms_from (suc (suc number)) (station_of octets) (views_with views octets) (lines_of (rest_of octets))).bad ≡ 0
+        → bad_in (forms_from (suc (suc number)) (station_of octets) (views_with views octets) (lines_of (rest_of octets))) ≡ None
         → length (rest_of octets) ≤ 8 * (254 - station_of octets))
         → length octets ≤ 8 * (254 - below)
     go (yes some) rest = no_bad_step number below views octets some rest e
@@ -152,34 +160,40 @@ no_bad (suc fuel) number below views octets h e = go (dec_lt 0 (length octets))
 
 -- The first line of bad form is the same in a front that has 8 octets for each number that a station can still have, and 8 more.
 bad_front : (fuel number below m : ℕ) (views octets : List ℕ) → length octets < fuel → 8 * (254 - below) + 8 ≤ m
-    → (forms_from number below views (lines_of (take m octets))).bad ≡ (forms_from number below views (lines_of octets)).bad
+    → bad_in (forms_from number below views (lines_of (take m octets))) ≡ bad_in (forms_from number below views (lines_of octets))
 bad_front zero number below m views octets h room = absurd (omega arith)
 bad_front (suc fuel) number below m views octets h room = go (dec_lt 0 (length octets))
     (λ j less. bad_front fuel (suc number) (station_of octets) j (views_with views octets) (rest_of octets) (omega arith))
   where
     go : Dec (0 < length octets)
         → ((j : ℕ) → length (rest_of octets) < length octets → 8 * (254 - station_of octets) + 8 ≤ j
-        → (forms_from (suc number) (station_of octets) (views_with views octets) (lines_of (take j (rest_of octets)))).bad
-        ≡ (forms_from (suc number) (station_of octets) (views_with views octets) (lines_of (rest_of octets))).bad)
-        → (forms_from number below views (lines_of (take m octets))).bad ≡ (forms_from number below views (lines_of octets)).bad
+        → bad_in (forms_from (suc number) (station_of octets) (views_with views octets) (lines_of (take j (rest_of octets))))
+        ≡ bad_in (forms_from (suc number) (station_of octets) (views_with views octets) (lines_of (rest_of octets))))
+        → bad_in (forms_from number below views (lines_of (take m octets))) ≡ bad_in (forms_from number below views (lines_of octets))
     go (yes some) rest = bad_front_step number below views octets some m room rest
     go (no none) rest =
         let nothing = empty_list octets (omega arith) in
-        ap (λ (l : List ℕ). (forms_from number below views (lines_of l)).bad)
+        ap (λ (l : List ℕ). bad_in (forms_from number below views (lines_of l)))
         (ap (take m) nothing ∙ take-nil m ∙ sym nothing)
 
 -- an answer that names a line of bad form
-names : (octets : List ℕ) → 0 < length octets → ¬ ((forms_of octets).bad ≡ 0) → read_of octets ≡ bad (forms_of octets).bad
-names octets some n = rw (ne_eqb (length octets) 0 (λ z. omega arith), ne_eqb _ _ n)
+names : (octets : List ℕ) → 0 < length octets → (number : BadLine) → bad_in (forms_of octets) ≡ Some number → read_of octets ≡ Err number
+names octets some number e = rw (ne_eqb (length octets) 0 (λ z. omega arith)) (go (forms_of octets) e)
+  where
+    go : (forms : Result Ring BadLine) → bad_in forms ≡ Some number → listed_in (unlisted_of octets) forms ≡ Err number
+    go (Ok ring) e = absurd (cc)
+    go (Err other) e = ap Err (same_Some other number e)
 
 pub read_prefix : (m : ℕ) (octets : List ℕ) → 2040 ≤ m → read_of (take m octets) ≡ read_of octets
 read_prefix m octets room = go (dec_le (length octets) m)
   where
     go : Dec (length octets ≤ m) → read_of (take m octets) ≡ read_of octets
     go (yes h) = ap read_of (take_all m octets h)
-    go (no h) =
-        let same = bad_front (suc (length octets)) 1 0 m (replicate 256 0) octets (omega arith) (omega arith) in
-        let n : ¬ ((forms_of octets).bad ≡ 0) = λ z. omega (arith, no_bad (suc (length octets)) 0 0 (replicate 256 0) octets (omega arith) z) in
-        names (take m octets) (omega (arith, length-take m octets)) (λ z. n (sym same ∙ z))
-        ∙ ap bad same
-        ∙ sym (names octets (omega arith) n)
+    go (no h) = by (bad_in (forms_of octets)) refl
+      where
+        same : bad_in (forms_of (take m octets)) ≡ bad_in (forms_of octets)
+        same = bad_front (suc (length octets)) 1 0 m (replicate 256 0) octets (omega arith) (omega arith)
+
+        by : (found : Option BadLine) → bad_in (forms_of octets) ≡ found → read_of (take m octets) ≡ read_of octets
+        by None e = absurd (omega (arith, no_bad (suc (length octets)) 0 0 (replicate 256 0) octets (omega arith) e))
+        by (Some number) e = names (take m octets) (omega (arith, length-take m octets)) number (same ∙ e) ∙ sym (names octets (omega arith) number e)

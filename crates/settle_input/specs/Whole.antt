@@ -1,16 +1,15 @@
 -- The ring that is read has the stations of the lines, in their order, each with the view of its line; every view is one of them.
 -- Assumes nothing.
-use Rattle.std.specs.Prelude.{◌≡◌, ◌∷◌, ◌<◌}
-use Rattle.laws.specs.Usual.{refl, sym, ap, subst, ◌∙◌, Bool, true, false, cond, List, [], map, ℕ, suc, arith, length, set, eqb, ltb}
-use Rattle.std.proofs.Common.{length-set, eqb-true}
+use Rattle.std.specs.Prelude.{◌≡◌, ◌∷◌, ◌<◌, Option, None, Some, Result, Ok, Err}
+use Rattle.laws.specs.Usual.{refl, ap, subst, ◌∙◌, Bool, true, false, cond, List, [], map, ℕ, suc, arith, length, set, eqb, ltb}
+use Rattle.std.proofs.Common.{length-set}
 use Rattle.std.proofs.lemmas.Bool.{eqb-false}
 use Rattle.settle_views.specs.Views.{stations_of, views_of, unlisted_in}
 use Rattle.settle_views.specs.declared.Ring.{Ring}
-use Rattle.settle_input.specs.Input.{lines_of, station_in, view_in, no_ring, forms_from, forms_of, unlisted_of, read_of}
-use Rattle.settle_input.specs.declared.Forms.{Forms}
+use Rattle.settle_input.specs.Input.{lines_of, station_in, view_in, bad, forms_from, forms_of, unlisted_of, listed_in, read_of}
+use Rattle.settle_input.specs.declared.BadLine.{BadLine}
 use Rattle.settle_input.specs.Filled.{no_views, Filled, filled_forms, forms_stations, unlisted_line}
 use Rattle.settle_input.specs.Lines.{lines_first}
-use Rattle.settle_input.specs.declared.Verdict.TheVariants as verdicts
 
 -- What was read, where a ring was read.
 pub record Given (octets : List ℕ) (ring : Ring) : Type 0 where
@@ -20,66 +19,60 @@ pub record Given (octets : List ℕ) (ring : Ring) : Type 0 where
   pub some : 0 < length (stations_of ring)
   pub size : length ring.views ≡ 256
   -- "every view a listed station", and no station 0: such a ring is settled
-  pub listed : unlisted_in ring ≡ 0
+  pub listed : unlisted_in ring ≡ None
   pub nobody : views_of ring 0 ≡ 0
 
 -- the tests that an answer with a ring has passed
-record Passed (octets : List ℕ) : Type 0 where
+record Passed (octets : List ℕ) (ring : Ring) : Type 0 where
   pub some : 0 < length octets
-  pub forms : (forms_of octets).bad ≡ 0
-  pub listed : unlisted_of octets ≡ 0
-  pub ring : (read_of octets).ring ≡ (forms_of octets).ring
+  pub forms : forms_of octets ≡ Ok ring
+  pub listed : unlisted_of octets ≡ None
 
-passed : (octets : List ℕ) → (read_of octets).verdict ≡ verdicts.Ring → Passed octets
-passed octets e =
-    go (eqb (length octets) 0) (eqb (forms_of octets).bad 0) (eqb (unlisted_of octets) 0) refl refl refl
+passed : (octets : List ℕ) (ring : Ring) → read_of octets ≡ Ok ring → Passed octets ring
+passed octets ring e = go (eqb (length octets) 0) (forms_of octets) (unlisted_of octets) refl refl refl e
   where
-    go : (s t u : Bool) → eqb (length octets) 0 ≡ s → eqb (forms_of octets).bad 0 ≡ t → eqb (unlisted_of octets) 0 ≡ u
-        → Passed octets
-    go true t u a b c = let told = rw a at e in let z : ◌≡◌ {A = ℕ} 0 1 = cc in absurd (omega arith)
-    go false false u a b c = let told = rw (a, b) at e in let z : ◌≡◌ {A = ℕ} 0 1 = cc in absurd (omega arith)
-    go false true false a b c = let told = rw (a, b, c) at e in let z : ◌≡◌ {A = ℕ} 0 1 = cc in absurd (omega arith)
-    go false true true a b c =
+    go : (s : Bool) (forms : Result Ring BadLine) (line : Option ℕ) → eqb (length octets) 0 ≡ s → forms_of octets ≡ forms → unlisted_of octets ≡ line
+        → cond s (bad 0) (listed_in line forms) ≡ Ok ring → Passed octets ring
+    go true forms line a b c e = absurd (cc)
+    go false (Err number) line a b c e = absurd (cc)
+    go false (Ok other) (Some line) a b c e = absurd (cc)
+    go false (Ok other) None a b c e =
         let n = eqb-false (length octets) 0 a in
-        record {
-          some = omega arith;
-          forms = eqb-true _ _ b;
-          listed = eqb-true _ _ c;
-          ring = rw (a, b, c);
-        }
+        record { some = omega arith; forms = b ∙ e; listed = c }
 
 -- a ring has 256 numbers, whatever the lines
-forms_size : (number below : ℕ) (views : List ℕ) (lines : List (List ℕ)) → length views ≡ 256 → length (forms_from number below views lines).ring.views ≡ 256
+forms_size : (number below : ℕ) (views : List ℕ) (lines : List (List ℕ)) (ring : Ring) → length views ≡ 256
+    → forms_from number below views lines ≡ Ok ring → length ring.views ≡ 256
 unfolding forms_from
-forms_size number below views [] all = all
-forms_size number below views (line ∷ lines) all =
-    by (ltb below (station_in line)) (forms_size (suc number) (station_in line) (set views (station_in line) (view_in line)) lines (length-set views (station_in line) (view_in line) ∙ all))
+forms_size number below views [] ring all e = let same : record { views = views } ≡ ring = cc in subst (λ (r : Ring). length r.views ≡ 256) same all
+forms_size number below views (line ∷ lines) ring all e =
+    by (ltb below (station_in line)) (forms_size (suc number) (station_in line) (set views (station_in line) (view_in line)) lines ring (length-set views (station_in line) (view_in line) ∙ all)) e
   where
-    more : Forms
+    more : Result Ring BadLine
     more = forms_from (suc number) (station_in line) (set views (station_in line) (view_in line)) lines
 
-    by : (t : Bool) → length more.ring.views ≡ 256 → length (cond t more (record { bad = number; ring = no_ring })).ring.views ≡ 256
-    by true e = e
-    by false e = refl
+    by : (t : Bool) → (more ≡ Ok ring → length ring.views ≡ 256) → cond t more (bad number) ≡ Ok ring → length ring.views ≡ 256
+    by true rest e = rest e
+    by false rest e = absurd (cc)
 
-pub ring_read : (octets : List ℕ) → (read_of octets).verdict ≡ verdicts.Ring → Given octets (read_of octets).ring
-ring_read octets e = subst (Given octets) (sym p.ring) (record {
+pub ring_read : (octets : List ℕ) (ring : Ring) → read_of octets ≡ Ok ring → Given octets ring
+ring_read octets ring e = record {
   stations = lines;
-  views = ap (map (views_of (forms_of octets).ring)) lines ∙ f.views_same;
+  views = ap (map (views_of ring)) lines ∙ f.views_same;
   some = rw lines (one_line octets p.some);
-  size = forms_size 1 0 no_views (lines_of octets) refl;
-  listed = unlisted_line octets p.forms ∙ p.listed;
+  size = forms_size 1 0 no_views (lines_of octets) ring refl p.forms;
+  listed = unlisted_line octets ring p.forms ∙ p.listed;
   nobody = f.kept 0 (omega arith);
-})
+}
   where
-    p : Passed octets
-    p = passed octets e
+    p : Passed octets ring
+    p = passed octets ring e
 
-    f : Filled 0 no_views (lines_of octets) (forms_of octets).ring
-    f = filled_forms octets p.forms
+    f : Filled 0 no_views (lines_of octets) ring
+    f = filled_forms octets ring p.forms
 
-    lines : stations_of (forms_of octets).ring ≡ map station_in (lines_of octets)
-    lines = forms_stations octets p.forms
+    lines : stations_of ring ≡ map station_in (lines_of octets)
+    lines = forms_stations octets ring p.forms
 
     one_line : (octets : List ℕ) → 0 < length octets → 0 < length (map station_in (lines_of octets))
     one_line octets h = rw (lines_first octets h) (omega arith)

@@ -1,25 +1,24 @@
 -- Laws for loops that go over a ring by the numbers of its stations. Assumes nothing.
-use Rattle.std.specs.Prelude.{◌≡◌, ◌∷◌, ◌++◌, ◌+◌, ◌<◌, ◌≤◌}
-use Rattle.laws.specs.Usual.{sym, ap, ◌∙◌, List, map, ℕ, suc, arith, length, get_or, take, drop, set}
-use Rattle.std.proofs.Common.{append-nil, add-one, eq-eqb, ne_eqb, drop_of_length-le, drop-cons, take-suc, take_all, length-take-le}
+use Rattle.std.specs.Prelude.{◌≡◌, ◌+◌, ◌<◌, ◌≤◌, Some, None, ◌∷◌, ◌++◌}
+use Rattle.laws.specs.Usual.{ap, List, ℕ, length, get_or, drop, sym, ◌∙◌, map, suc, arith, take, set}
+use Rattle.std.proofs.Common.{add-one, eq-eqb, ne_eqb, drop_of_length-le, drop-cons, append-nil, take-suc, take_all, length-take-le}
+use Rattle.settle_moves.specs.Moves.{first_listed}
 use Rattle.std.proofs.lemmas.List.{length-map, set_at}
 use Rattle.std.proofs.Math.ListN.{get_or-map}
 use Rattle.std.proofs.Math.Seq.{append_snoc, get_or-append_seam}
-use Rattle.settle_moves.specs.Moves.{first_listed}
 
 module _ (views : List ℕ) (i : ℕ) where
   -- at the end no station is left
-  pub listed_end : (otherwise : ℕ) → length views ≤ i → first_listed i (drop i views) otherwise ≡ otherwise
-  listed_end otherwise h = ap (λ (l : List ℕ). first_listed i l otherwise) (drop_of_length-le views h)
+  pub listed_end : length views ≤ i → first_listed i (drop i views) ≡ None
+  listed_end h = ap (first_listed i) (drop_of_length-le views h)
 
   -- a number that is not listed is passed over
-  pub listed_skip : (otherwise : ℕ) → i < length views → get_or views i 0 ≡ 0
-      → first_listed i (drop i views) otherwise ≡ first_listed (i + 1) (drop (i + 1) views) otherwise
-  listed_skip otherwise h e = rw (add-one, drop-cons views i 0, eq-eqb _ _ e)
+  pub listed_skip : i < length views → get_or views i 0 ≡ 0 → first_listed i (drop i views) ≡ first_listed (i + 1) (drop (i + 1) views)
+  listed_skip h e = rw (add-one, drop-cons views i 0, eq-eqb _ _ e)
 
   -- a number that is listed is the first there
-  pub listed_first : (otherwise : ℕ) → i < length views → ¬ (get_or views i 0 ≡ 0) → first_listed i (drop i views) otherwise ≡ i
-  listed_first otherwise h n = rw (drop-cons views i 0, ne_eqb _ _ n)
+  pub listed_first : i < length views → ¬ (get_or views i 0 ≡ 0) → first_listed i (drop i views) ≡ Some i
+  listed_first h n = rw (drop-cons views i 0, ne_eqb _ _ n)
 
 -- How far a loop is that takes every element of a list to its value under f, in place and from the front.
 abbrev pub Mapped : (ℕ → ℕ) → List ℕ → List ℕ → ℕ → Type 0

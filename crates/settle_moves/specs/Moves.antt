@@ -1,14 +1,14 @@
 -- What an event does to the ring that `settle` works on. Words in quotes are paper 01's.
 use Rattle.laws.specs.Usual.{cond, List, [], map, ℕ, suc, min, eqb}
-use Rattle.std.specs.Prelude.{◌∷◌, zero}
+use Rattle.std.specs.Prelude.{◌∷◌, zero, Option, Some, None}
 use Rattle.settling.specs.Ring.{Event, silence, move}
 use Rattle.settle_views.specs.Views.{ring_with, stations_of}
 use Rattle.settle_views.specs.declared.Ring.{Ring}
 
--- the first listed station among views that start at the station `number`, or `otherwise` where there is none
-abbrev pub first_listed : ℕ → List ℕ → ℕ → ℕ
-first_listed number [] otherwise = otherwise
-first_listed number (view ∷ views) otherwise = cond (eqb view 0) (first_listed (suc number) views otherwise) number
+-- the first listed station among views that start at the station `number`
+abbrev pub first_listed : ℕ → List ℕ → Option ℕ
+first_listed number [] = None
+first_listed number (view ∷ views) = cond (eqb view 0) (first_listed (suc number) views) (Some number)
 
 -- the view of a station after a token frame: "if the source is our view, the view becomes the destination. Otherwise the view becomes
 -- the smaller of view and destination." 0, which stands for no station, stays 0.

@@ -15,15 +15,13 @@ fn passed_view(view: u8, from: u8, to: u8) -> u8
     if view == from {
         return to;
     }
-    if view < to { view } else { to }
+    view.min(to)
 }
 
 pub fn pass_views(views: &mut [u8], from: u8, to: u8)
     ensures { views.new ≡ map (λ view. passed_view view from to) views.old }
 {
-    let mut station: usize = 0;
-    while station < views.len() {
-        views[station] = passed_view(views[station], from, to);
-        station += 1;
+    for view in views {
+        *view = passed_view(*view, from, to);
     }
 }

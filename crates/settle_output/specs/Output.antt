@@ -4,6 +4,8 @@ use Rattle.laws.specs.Usual.{cond, List, [], ℕ, length, ltb}
 use Rattle.copying.specs.Pasted.{pasted}
 use Rattle.text.specs.Lines.{line_of}
 use Rattle.settle_run.specs.Run.{letter_of}
+use Rattle.settle_run.specs.declared.Kind.{Kind}
+use Rattle.settle_run.specs.declared.Kind.TheVariants.{Pass, Silence}
 use Rattle.settle_run.specs.declared.Settled.{Settled}
 use Rattle.settle_run.specs.declared.Stepped.{Stepped}
 
@@ -24,9 +26,18 @@ header_line =
     line_of (0x77 ∷ 0x68 ∷ 0x61 ∷ 0x74 ∷ 0x2c ∷ 0x66 ∷ 0x72 ∷ 0x6f ∷ 0x6d ∷ 0x2c ∷ 0x74 ∷ 0x6f ∷ 0x2c ∷ 0x76 ∷ 0x69 ∷ 0x65 ∷ 0x77 ∷ 0x73 ∷ [])
     []
 
+-- from which station to which the token was passed, "both 0 for S"
+abbrev pub sender_of : Kind → ℕ
+sender_of (Pass from to) = from
+sender_of Silence = 0
+
+abbrev pub receiver_of : Kind → ℕ
+receiver_of (Pass from to) = to
+receiver_of Silence = 0
+
 -- "The fields: kind, from, to (both 0 for S), number of different views afterwards."
 abbrev pub step_line : Stepped → List ℕ
-step_line stepped = line_of (letter_of stepped.kind ∷ []) (stepped.from ∷ stepped.to ∷ stepped.views ∷ [])
+step_line stepped = line_of (letter_of stepped.kind ∷ []) (sender_of stepped.kind ∷ receiver_of stepped.kind ∷ stepped.views ∷ [])
 
 -- "E: passes, silences, views."
 abbrev pub settled_line : Settled → List ℕ

@@ -7,7 +7,7 @@ use Rattle.text.specs.LineLaws.{numbers_length}
 use Rattle.settle_run.specs.Run.{letter_of}
 use Rattle.settle_run.specs.declared.Settled.{Settled}
 use Rattle.settle_run.specs.declared.Stepped.{Stepped}
-use Rattle.settle_output.specs.Output.{room, header_line, step_line, settled_line, bad_line}
+use Rattle.settle_output.specs.Output.{room, sender_of, receiver_of, header_line, step_line, settled_line, bad_line}
 
 -- a line that has an end, and fits
 abbrev pub Fits : List ℕ → Type 0
@@ -22,7 +22,7 @@ pub header_fits : Fits header_line
 header_fits = (omega arith, omega arith)
 
 pub step_fits : (stepped : Stepped) → Fits (step_line stepped)
-step_fits stepped = line_fits (letter_of stepped.kind ∷ []) (stepped.from ∷ stepped.to ∷ stepped.views ∷ []) (omega arith)
+step_fits stepped = line_fits (letter_of stepped.kind ∷ []) (sender_of stepped.kind ∷ receiver_of stepped.kind ∷ stepped.views ∷ []) (omega arith)
 
 pub settled_fits : (settled : Settled) → Fits (settled_line settled)
 settled_fits settled = line_fits (0x45 ∷ []) (settled.passes ∷ settled.silences ∷ settled.views ∷ []) (omega arith)

@@ -4,12 +4,11 @@
 ghost use Rattle.std.specs.Prelude.{◌≡◌, ◌+◌, ◌*◌, ◌≤◌};
 ghost use Rattle.laws.specs.Usual.{length};
 ghost use Rattle.text.specs.Lines.{line_of};
-ghost use Rattle.settle_run.specs.Run.{letter_of};
 ghost use Rattle.settle_output.specs.Output.{room, written_to, length_in, header_line, step_line, settled_line, bad_line};
 
 use settle_run::{Kind, Settled, Stepped};
 
-// Writes a line, and answers its length, or 0 where it has no room.
+// Writes a line, and answers how many octets were written: none where it has no room.
 fn put_in(word: &[u8], numbers: &[u32], output: &mut [u8]) -> usize
     requires { length word.now + 11 * length numbers.now + 1 ≤ room }
     ensures value { result ≡ length_in output.old (line_of word.now numbers.now) }
@@ -25,41 +24,33 @@ pub fn put_header(output: &mut [u8]) -> usize
     ensures value { result ≡ length_in output.old header_line }
     ensures output_after { output.new ≡ written_to output.old header_line }
 {
-    let numbers: [u32; 0] = [];
-    put_in(b"what,from,to,views", &numbers, output)
-}
-
-fn letter(kind: Kind) -> u8
-    ensures { result ≡ letter_of kind }
-{
-    match kind {
-        Kind::Pass => b'P',
-        Kind::Silence => b'S',
-    }
+    put_in(b"what,from,to,views", &[], output)
 }
 
 pub fn put_step(stepped: Stepped, output: &mut [u8]) -> usize
     ensures value { result ≡ length_in output.old (step_line stepped) }
     ensures output_after { output.new ≡ written_to output.old (step_line stepped) }
 {
-    let kind = stepped.kind;
-    let word = [letter(kind)];
-    let numbers = [stepped.from as u32, stepped.to as u32, stepped.views];
-    put_in(&word, &numbers, output)
+    match stepped.kind {
+        Kind::Pass { from, to } => put_in(b"P", &[from as u32, to as u32, stepped.views], output),
+        Kind::Silence => put_in(b"S", &[0, 0, stepped.views], output),
+    }
 }
 
 pub fn put_settled(settled: Settled, output: &mut [u8]) -> usize
     ensures value { result ≡ length_in output.old (settled_line settled) }
     ensures output_after { output.new ≡ written_to output.old (settled_line settled) }
 {
-    let numbers = [settled.passes, settled.silences, settled.views];
-    put_in(b"E", &numbers, output)
+    put_in(
+        b"E",
+        &[settled.passes, settled.silences, settled.views],
+        output,
+    )
 }
 
 pub fn put_bad(line: u32, output: &mut [u8]) -> usize
     ensures value { result ≡ length_in output.old (bad_line line) }
     ensures output_after { output.new ≡ written_to output.old (bad_line line) }
 {
-    let numbers = [line];
-    put_in(b"bad", &numbers, output)
+    put_in(b"bad", &[line], output)
 }

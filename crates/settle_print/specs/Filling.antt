@@ -30,11 +30,11 @@ module _ {size : ℕ} {begun : Printing} where
   filling_start = record { lines = lines_left begun; enough = omega arith; whole = refl; joined = refl; count = refl; inside = omega arith }
 
   module _ {now : Printing} {at : ℕ} (f : Filling size begun now at) where
-    pub not_over : goes_on size now at ≡ true → is_over now.stage ≡ false
-    not_over on = not-true (is_over now.stage) (first (not (is_over now.stage)) (leb room (size - at)) on)
+    pub not_over : goes_on size now at ≡ true → is_over now ≡ false
+    not_over on = not-true (is_over now) (first (not (is_over now)) (leb room (size - at)) on)
 
     pub has_room : goes_on size now at ≡ true → at + room ≤ size
-    has_room on = omega (arith, leb-true room (size - at) (second (not (is_over now.stage)) (leb room (size - at)) on))
+    has_room on = omega (arith, leb-true room (size - at) (second (not (is_over now)) (leb room (size - at)) on))
 
     -- one line more
     pub written : take (at + length (next_line now)) (rest_of begun) ≡ take at (rest_of begun) ++ next_line now
@@ -102,14 +102,14 @@ no_more (suc lines) size p at = by (goes_on size p at) refl (no_more lines size 
     by : (t : Bool) → goes_on size p at ≡ t → lines_left more.printing ≤ lines_left (next_of p) × (at + length (next_line p) ≤ more.length)
         → lines_left (cond t more (record { printing = p; length = at })).printing ≤ lines_left p
         × (at ≤ (cond t more (record { printing = p; length = at })).length)
-    by true on (few, put) = (omega (arith, lines_next p (not-true (is_over p.stage) (first (not (is_over p.stage)) (leb room (size - at)) on)), few), omega arith)
+    by true on (few, put) = (omega (arith, lines_next p (not-true (is_over p) (first (not (is_over p)) (leb room (size - at)) on)), few), omega arith)
     by false on (few, put) = (omega arith, omega arith)
 
 pub fill_no_more : (size : ℕ) (p : Printing) → lines_left (filled_of size p).printing ≤ lines_left p
 fill_no_more size p = (no_more (lines_left p) size p 0).0
 
 -- With room for a line, and one left, a fill puts an octet, and leaves fewer lines.
-pub fill_less : (size : ℕ) (p : Printing) → room ≤ size → is_over p.stage ≡ false
+pub fill_less : (size : ℕ) (p : Printing) → room ≤ size → is_over p ≡ false
     → (lines_left (filled_of size p).printing < lines_left p) × (1 ≤ (filled_of size p).length)
 unfolding fill_from
 fill_less size p enough e =

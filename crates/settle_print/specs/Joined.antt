@@ -56,7 +56,7 @@ handed_joined (suc fills) buffer p =
     ∙ part_joined size p
 
 -- Once nothing is left to print, all that was handed on is the output of the input, octet by octet.
-pub handed_whole : (fills : ℕ) (buffer octets : List ℕ) → is_over (after_fills fills (length buffer) (printing_of octets)).stage ≡ true
+pub handed_whole : (fills : ℕ) (buffer octets : List ℕ) → is_over (after_fills fills (length buffer) (printing_of octets)) ≡ true
     → handed fills buffer (printing_of octets) ≡ output_of octets
 handed_whole fills buffer octets over =
     let all = handed fills buffer (printing_of octets) in
@@ -66,18 +66,18 @@ handed_whole fills buffer octets over =
     ∙ begun octets
 
 -- And it comes to that: with room for a line, each fill leaves fewer lines (`fill_less`).
-pub handed_ends : (fills size : ℕ) (p : Printing) → room ≤ size → lines_left p ≤ fills → is_over (after_fills fills size p).stage ≡ true
+pub handed_ends : (fills size : ℕ) (p : Printing) → room ≤ size → lines_left p ≤ fills → is_over (after_fills fills size p) ≡ true
 unfolding after_fills
 handed_ends zero size p enough few = none_left p (omega arith)
-handed_ends (suc fills) size p enough few = handed_ends fills size (filled_of size p).printing enough (by (is_over p.stage) refl)
+handed_ends (suc fills) size p enough few = handed_ends fills size (filled_of size p).printing enough (by (is_over p) refl)
   where
-    by : (t : Bool) → is_over p.stage ≡ t → lines_left (filled_of size p).printing ≤ fills
+    by : (t : Bool) → is_over p ≡ t → lines_left (filled_of size p).printing ≤ fills
     by true e = omega (arith, none_over p e, fill_no_more size p)
     by false e = omega (arith, fill_less size p enough e)
 
 -- So a program that fills a buffer of 35 octets or more and hands on its front until nothing is left to print ends, and hands on the output.
 pub printed_whole : (buffer octets : List ℕ) → room ≤ length buffer
-    → (fills : ℕ) × (is_over (after_fills fills (length buffer) (printing_of octets)).stage ≡ true) × (handed fills buffer (printing_of octets) ≡ output_of octets)
+    → (fills : ℕ) × (is_over (after_fills fills (length buffer) (printing_of octets)) ≡ true) × (handed fills buffer (printing_of octets) ≡ output_of octets)
 printed_whole buffer octets enough =
     let fills = lines_left (printing_of octets) in
     let over = handed_ends fills (length buffer) (printing_of octets) enough (omega arith) in

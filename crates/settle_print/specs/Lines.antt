@@ -9,11 +9,10 @@ use Rattle.settle_run.specs.declared.Running.{Running}
 use Rattle.settle_run.specs.declared.Settled.{Settled}
 use Rattle.settle_output.specs.Output.{step_line, settled_line, bad_line}
 use Rattle.settle_output.specs.Room.{Fits, header_fits, step_fits, settled_fits, bad_fits}
-use Rattle.settle_rest.specs.Rest.{lines_from, run_rest, rest_by, rest_of, is_over}
-use Rattle.settle_rest.specs.declared.Stage.{Stage}
-use Rattle.settle_rest.specs.declared.Stage.TheVariants.{Bad, Header, Run, Over}
+use Rattle.settle_rest.specs.Rest.{lines_from, run_rest, rest_of, is_over}
 use Rattle.settle_rest.specs.declared.Printing.{Printing}
-use Rattle.settle_print.specs.Parts.{run_line_by, run_next_by, line_by, next_by, next_line, next_of, lines_by, lines_left}
+use Rattle.settle_rest.specs.declared.Printing.TheVariants.{Bad, Header, Run, Over}
+use Rattle.settle_print.specs.Parts.{run_line_by, run_next_by, next_line, next_of, lines_left}
 
 -- a run that has ended prints no step more, and another its next
 module _ (running : Running) where
@@ -45,47 +44,41 @@ run_line false running e =
 -- and so does every other
 pub line_next : (p : Printing) → next_line p ++ rest_of (next_of p) ≡ rest_of p
 unfolding next_line next_of rest_of
-line_next p = by p.stage
-  where
-    by : (stage : Stage) → line_by stage p.running ++ rest_of (next_by stage p.running) ≡ rest_by stage p.running
-    by (Bad number) = append-nil (bad_line number)
-    by Header = refl
-    by Run = run_line (has_ended p.running.settled p.running.left) p.running refl
-    by Over = refl
+line_next (Bad number) = append-nil (bad_line number)
+line_next (Header running) = refl
+line_next (Run running) = run_line (has_ended running.settled running.left) running refl
+line_next Over = refl
 
 run_lines : (t : Bool) (running : Running) → has_ended running.settled running.left ≡ t → lines_left (run_next_by t running) < suc running.left
 run_lines true running e = omega arith
 run_lines false running e = omega (arith, some_left running.settled running.left e)
 
 -- and it is one line less
-pub lines_next : (p : Printing) → is_over p.stage ≡ false → lines_left (next_of p) < lines_left p
+pub lines_next : (p : Printing) → is_over p ≡ false → lines_left (next_of p) < lines_left p
 unfolding next_of
-lines_next p = by p.stage
-  where
-    by : (stage : Stage) → is_over stage ≡ false → lines_left (next_by stage p.running) < lines_by stage p.running
-    by (Bad number) e = omega arith
-    by Header e = omega arith
-    by Run e = run_lines (has_ended p.running.settled p.running.left) p.running refl
-    by Over e = absurd (false≢true (sym e))
+lines_next (Bad number) e = omega arith
+lines_next (Header running) e = omega arith
+lines_next (Run running) e = run_lines (has_ended running.settled running.left) running refl
+lines_next Over e = absurd (false≢true (sym e))
 
--- only one stage is over, and then nothing is left
-over_stage : (stage : Stage) → is_over stage ≡ true → stage ≡ Over
-over_stage (Bad number) e = absurd (false≢true e)
-over_stage Header e = absurd (false≢true e)
-over_stage Run e = absurd (false≢true e)
-over_stage Over e = refl
+-- only where nothing is to be printed it is over
+over_is : (p : Printing) → is_over p ≡ true → p ≡ Over
+over_is (Bad number) e = absurd (false≢true e)
+over_is (Header running) e = absurd (false≢true e)
+over_is (Run running) e = absurd (false≢true e)
+over_is Over e = refl
 
-pub none_over : (p : Printing) → is_over p.stage ≡ true → lines_left p ≡ 0
-none_over p e = ap (λ (stage : Stage). lines_by stage p.running) (over_stage p.stage e)
+pub none_over : (p : Printing) → is_over p ≡ true → lines_left p ≡ 0
+none_over p e = ap lines_left (over_is p e)
 
-pub rest_over : (p : Printing) → is_over p.stage ≡ true → rest_of p ≡ []
+pub rest_over : (p : Printing) → is_over p ≡ true → rest_of p ≡ []
 unfolding rest_of
-rest_over p e = ap (λ (stage : Stage). rest_by stage p.running) (over_stage p.stage e)
+rest_over p e = ap rest_of (over_is p e)
 
-pub none_left : (p : Printing) → lines_left p ≤ 0 → is_over p.stage ≡ true
-none_left p = by (is_over p.stage) refl
+pub none_left : (p : Printing) → lines_left p ≤ 0 → is_over p ≡ true
+none_left p = by (is_over p) refl
   where
-    by : (t : Bool) → is_over p.stage ≡ t → lines_left p ≤ 0 → t ≡ true
+    by : (t : Bool) → is_over p ≡ t → lines_left p ≤ 0 → t ≡ true
     by true e h = refl
     by false e h = absurd (omega (arith, lines_next p e))
 
@@ -93,12 +86,9 @@ run_fits : (t : Bool) (running : Running) → Fits (run_line_by t running)
 run_fits true running = settled_fits running.settled
 run_fits false running = step_fits (next_step running)
 
-pub line_fits : (p : Printing) → is_over p.stage ≡ false → Fits (next_line p)
+pub line_fits : (p : Printing) → is_over p ≡ false → Fits (next_line p)
 unfolding next_line
-line_fits p = by p.stage
-  where
-    by : (stage : Stage) → is_over stage ≡ false → Fits (line_by stage p.running)
-    by (Bad number) e = bad_fits number
-    by Header e = header_fits
-    by Run e = run_fits (has_ended p.running.settled p.running.left) p.running
-    by Over e = absurd (false≢true (sym e))
+line_fits (Bad number) e = bad_fits number
+line_fits (Header running) e = header_fits
+line_fits (Run running) e = run_fits (has_ended running.settled running.left) running
+line_fits Over e = absurd (false≢true (sym e))

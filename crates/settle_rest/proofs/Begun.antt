@@ -1,6 +1,6 @@
 -- All that is to be printed for an input is its output. Assumes nothing.
 use Rattle.laws.specs.Usual.{refl, ap, ap₂, ◌∙◌, Bool, true, false, cond, List, [], ℕ, suc, length}
-use Rattle.std.specs.Prelude.{◌≡◌, ◌∷◌, ◌++◌, ◌+◌, zero}
+use Rattle.std.specs.Prelude.{Result, Ok, Err, ◌≡◌, ◌∷◌, ◌++◌, zero}
 use Rattle.std.proofs.Common.{eq-eqb}
 use Rattle.settling.specs.Steps.{after_all}
 use Rattle.settle_views.specs.Views.{stations_of, views_of}
@@ -18,11 +18,11 @@ use Rattle.settle_run.specs.declared.Settled.{Settled}
 use Rattle.settle_run.specs.declared.Stepped.{Stepped}
 use Rattle.settle_input.specs.Input.{read_of}
 use Rattle.settle_input.specs.Whole.{ring_read}
-use Rattle.settle_input.specs.declared.Verdict.{Verdict}
+use Rattle.settle_input.specs.declared.BadLine.{BadLine}
 use Rattle.settle_output.specs.Output.{header_line, step_line, settled_line}
 use Rattle.settle_rest.specs.Whole.{step_lines, answer_lines, run_lines, output_of}
-use Rattle.settle_rest.specs.Rest.{lines_from, run_rest, rest_of, stage_of, printing_for, printing_of}
-use Rattle.settle_input.specs.declared.Verdict.TheVariants as verdicts
+use Rattle.settle_rest.specs.Rest.{lines_from, run_rest, rest_of, printing_for, printing_of}
+use Rattle.settle_rest.specs.declared.Printing.TheVariants.{Header}
 
 -- the lines that a run prints by its counts are those of the definition's steps
 pub lines_steps : (left : ℕ) (running : Running) → Held running → lines_from left running ≡ step_lines (length (run_from left running.ring)) running.ring
@@ -49,21 +49,21 @@ run_printed ring size is =
     (run_ends ring size (views_small size (proper_ring ring is)))
 
 -- a ring that was read is one that is settled
-settled_ring : (octets : List ℕ) → (read_of octets).verdict ≡ verdicts.Ring → is_ring (read_of octets).ring ≡ true
-settled_ring octets e = let g = ring_read octets e in rw (eq-eqb _ _ g.listed, eq-eqb _ _ g.nobody)
+settled_ring : (octets : List ℕ) (ring : Ring) → read_of octets ≡ Ok ring → is_ring ring ≡ true
+settled_ring octets ring e = let g = ring_read octets ring e in rw (g.listed, eq-eqb _ _ g.nobody)
 
 -- and the counts that are held while it is printed are those of its ring, after each step
-pub counts_read : (octets : List ℕ) → (read_of octets).verdict ≡ verdicts.Ring
-    → (steps : ℕ) → RightCounts (after_all moved (read_of octets).ring (steps_from steps (read_of octets).ring)) (running_after steps (printing_of octets).running)
+pub counts_read : (octets : List ℕ) (ring : Ring) → read_of octets ≡ Ok ring
+    → (running : Running) × (printing_of octets ≡ Header running)
+    × ((steps : ℕ) → RightCounts (after_all moved ring (steps_from steps ring)) (running_after steps running))
 unfolding printing_of
-counts_read octets e steps =
-    let g = ring_read octets e in
-    counts_run (read_of octets).ring g.size (settled_ring octets e) g.some steps
+counts_read octets ring e =
+    let g = ring_read octets ring e in (running_of ring, ap printing_for e, λ steps. counts_run ring g.size (settled_ring octets ring e) g.some steps)
 
 pub begun : (octets : List ℕ) → rest_of (printing_of octets) ≡ output_of octets
 unfolding rest_of printing_of
-begun octets = by (read_of octets).verdict refl
+begun octets = by (read_of octets) refl
   where
-    by : (verdict : Verdict) → (read_of octets).verdict ≡ verdict → rest_of (printing_for (stage_of verdict) (read_of octets).ring) ≡ answer_lines verdict (read_of octets).ring
-    by (verdicts.Bad number) e = refl
-    by verdicts.Ring e = run_printed (read_of octets).ring (ring_read octets e).size (settled_ring octets e)
+    by : (read : Result Ring BadLine) → read_of octets ≡ read → rest_of (printing_for read) ≡ answer_lines read
+    by (Ok ring) e = run_printed ring (ring_read octets ring e).size (settled_ring octets ring e)
+    by (Err bad) e = refl

@@ -16,8 +16,9 @@ use Rattle.settle_run.specs.declared.Running.{Running}
 use Rattle.settle_run.specs.declared.Settled.{Settled}
 use Rattle.settle_run.specs.declared.Stepped.{Stepped}
 use Rattle.settle_rest.specs.Whole.{step_lines}
-use Rattle.settle_rest.specs.Rest.{lines_from, run_rest, steps_of, shortened}
+use Rattle.settle_rest.specs.Rest.{lines_from, run_rest, steps_of, last_of, shortened}
 use Rattle.settle_rest.specs.declared.Printing.{Printing}
+use Rattle.settle_rest.specs.declared.Printing.TheVariants.{Bad, Header, Run, Over}
 
 -- some steps, and what is printed behind them, are what is printed
 parted : (first left : ℕ) (running : Running) → Held running → running.left ≡ left → first ≤ length (run_from left running.ring)
@@ -57,7 +58,20 @@ last_steps shown ring size is =
     parted (steps_of ring - shown) (running_of ring).left (running_of ring) (held_start ring size is) refl (omega (arith, steps (run_of ring)))
 
 -- no more steps than are to be shown: none is left out
-pub all_shown : (shown : ℕ) (p : Printing) → steps_of p.running.ring ≤ shown → shortened shown p ≡ p
-all_shown shown p few =
-    let none : steps_of p.running.ring - shown ≡ 0 = omega arith in
-    ap (λ (k : ℕ). record { stage = p.stage; running = running_after k p.running }) none
+all_last : (shown : ℕ) (running : Running) → steps_of running.ring ≤ shown → last_of shown running ≡ running
+all_last shown running few =
+    let none : steps_of running.ring - shown ≡ 0 = omega arith in
+    ap (λ (k : ℕ). running_after k running) none
+
+-- of what is still to be printed: its run, where there is one, has no more steps
+abbrev pub NoMore : ℕ → Printing → Type 0
+NoMore shown (Bad number) = Unit {0}
+NoMore shown (Header running) = steps_of running.ring ≤ shown
+NoMore shown (Run running) = steps_of running.ring ≤ shown
+NoMore shown Over = Unit {0}
+
+pub all_shown : (shown : ℕ) (p : Printing) → NoMore shown p → shortened shown p ≡ p
+all_shown shown (Bad number) few = refl
+all_shown shown (Header running) few = ap Header (all_last shown running few)
+all_shown shown (Run running) few = ap Run (all_last shown running few)
+all_shown shown Over few = refl

@@ -1,15 +1,11 @@
 -- What is proved of the definitions in specs/Whole.antt.
-use Rattle.laws.specs.Usual.{refl, List, [], ℕ, suc}
-use Rattle.std.specs.Prelude.{◌≡◌, ◌∷◌, ◌++◌, ◌+◌, zero}
+use Rattle.laws.specs.Usual.{refl, []}
+use Rattle.std.specs.Prelude.{◌≡◌, ◌∷◌, ◌++◌}
 use Rattle.text.specs.Decimal.{decimal_at}
-use Rattle.settle_views.specs.declared.Ring.{Ring}
-use Rattle.settle_moves.specs.Moves.{moved}
-use Rattle.settle_run.specs.Run.{event_in, stepped_of, run_from, settled_of}
-use Rattle.settle_input.specs.Input.{lines_of, entry_of, forms_from, read_of}
-use Rattle.settle_input.specs.declared.Verdict.{Verdict}
-use Rattle.settle_output.specs.Output.{header_line, step_line, settled_line, bad_line}
-use Rattle.settle_input.specs.declared.Verdict.TheVariants as verdicts
-use Rattle.settle_rest.specs.Whole.{step_lines, run_lines, answer_lines, output_of, example}
+use Rattle.settle_run.specs.Run.{run_from}
+use Rattle.settle_input.specs.Input.{lines_of, entry_of, forms_from}
+use Rattle.settle_output.specs.Output.{header_line}
+use Rattle.settle_rest.specs.Whole.{step_lines, output_of, example}
 
 -- the column names, then "S,0,0,2", "P,1,2,1", "E,1,1,1"
 shown : output_of example

@@ -8,7 +8,6 @@ use Rattle.settling.specs.Steps.{after_all}
 use Rattle.settling.specs.Ring.{Event, pass, silence, Legal, passes, silences}
 use Rattle.settle_views.specs.Views.{ring_with, stations_of, views_of, different_views}
 use Rattle.settle_views.specs.Listed.{few_stations}
-use Rattle.settle_views.specs.Proper.{not_zero}
 use Rattle.settle_views.specs.declared.Ring.{Ring}
 use Rattle.settle_moves.specs.Moves.{view_after, moved}
 use Rattle.settle_moves.specs.Moved.{moved_stations, moved_proper}
@@ -46,7 +45,7 @@ module _ {running : Running} (h : Held running) where
 
   module _ (some : 0 < length (stations_of running.ring)) where
     can : Legal (stations_of running.ring) (views_of running.ring) (event_in running.ring)
-    can = step_legal (views_of running.ring) (stations_of running.ring) (not_zero h.proper)
+    can = step_legal (views_of running.ring) (stations_of running.ring)
 
     -- one step more: the counts after it are those of the ring after it
     pub held_onward : Held (onward running)

@@ -1,7 +1,7 @@
 -- The run that `settle` makes is a run of the ring of views; it stops at the first agreement, and at no other place; and it has at most
 -- as many steps as the theory of settling says. Assumes nothing.
 use Rattle.laws.specs.Usual.{[], refl, sym, ap, subst, ◌∙◌, Bool, true, false, cond, List, ℕ, suc, arith, length, eqb}
-use Rattle.std.specs.Prelude.{◌≡◌, ◌∷◌, ◌+◌, ◌*◌, ◌<◌, ◌≤◌, ◌⊎◌, zero}
+use Rattle.std.specs.Prelude.{Option, Some, None, is_none, ◌≡◌, ◌∷◌, ◌+◌, ◌*◌, ◌<◌, ◌≤◌, ◌⊎◌, zero}
 use Rattle.std.proofs.Common.{inl, inr, append-nil, mul-suc, suc-mul, leb-true, leb-false, eqb-true}
 use Rattle.std.proofs.Math.Decide.{dec_lt}
 use Rattle.laws.specs.Tests.{first, second}
@@ -18,7 +18,7 @@ use Rattle.settle_moves.specs.Moves.{moved}
 use Rattle.settle_views.specs.Views.{stations_of, views_of, different_views, unlisted_in}
 use Rattle.settle_views.specs.Listed.{ascending}
 use Rattle.settle_views.specs.Agreement.{one_agreed, agreed_one, some_view}
-use Rattle.settle_views.specs.Proper.{Proper, proper, not_zero}
+use Rattle.settle_views.specs.Proper.{Proper, proper}
 use Rattle.settle_views.specs.declared.Ring.{Ring}
 use Rattle.settle_run.specs.Run.{event_in, agreed_in, run_from, is_ring, limit_of, run_of, settled_of, Bounded}
 use Rattle.settle_run.proofs.Holders.{step_legal}
@@ -82,7 +82,7 @@ made (suc left) ring p = go (agreed_in ring) refl (made left (moved ring (event_
     }
     go false e rest =
         let n = differs ring e in
-        let can = step_legal (views_of ring) (stations_of ring) (not_zero p) in
+        let can = step_legal (views_of ring) (stations_of ring) in
         let some = some_station (stations_of ring) (views_of ring) n in
         made_more (event_in ring) p n can (rest (moved_proper (event_in ring) p some can))
 
@@ -92,10 +92,14 @@ square_more zero = omega arith
 square_more (suc zero) = omega arith
 square_more (suc (suc n)) = omega (arith, suc-mul (suc n) (suc (suc n)), suc-mul n (suc (suc n)), mul-suc n (suc n), mul-suc n n)
 
+none_there : (line : Option ℕ) → is_none line ≡ true → line ≡ None
+none_there None e = refl
+none_there (Some line) e = absurd (cc)
+
 pub proper_ring : (ring : Ring) → is_ring ring ≡ true → Proper ring
 proper_ring ring e =
-    proper ring (eqb-true _ _ (first (eqb (unlisted_in ring) 0) (eqb (views_of ring 0) 0) e))
-    (eqb-true _ _ (second (eqb (unlisted_in ring) 0) (eqb (views_of ring 0) 0) e))
+    proper ring (none_there _ (first (is_none (unlisted_in ring)) (eqb (views_of ring 0) 0) e))
+    (eqb-true _ _ (second (is_none (unlisted_in ring)) (eqb (views_of ring 0) 0) e))
 
 module _ (ring : Ring) (is : is_ring ring ≡ true) where
   n : ℕ

@@ -1,6 +1,6 @@
 -- The run that `settle` makes. Words in quotes are paper 01's, section "settle".
 use Rattle.laws.specs.Usual.{[], Bool, cond, List, ℕ, suc, length, eqb, leb}
-use Rattle.std.specs.Prelude.{◌≡◌, ◌&&◌, ◌∷◌, ◌+◌, ◌-◌, ◌*◌, ◌≤◌, zero}
+use Rattle.std.specs.Prelude.{Option, Some, None, is_none, ◌≡◌, ◌&&◌, ◌∷◌, ◌+◌, ◌-◌, ◌*◌, ◌≤◌, zero}
 use Rattle.settling.specs.Steps.{after_all}
 use Rattle.settling.specs.Ring.{next, Event, pass, silence, passes, silences}
 use Rattle.settle_moves.specs.Moves.{moved}
@@ -12,16 +12,17 @@ use Rattle.settle_run.specs.declared.Settled.{Settled}
 use Rattle.settle_run.specs.declared.Stepped.{Stepped}
 
 -- "the smallest holder passes (P); with no holder a silence (S)"
-abbrev pub pass_by : ℕ → Event
-pass_by holder = cond (eqb holder 0) silence (pass holder)
+abbrev pub pass_by : Option ℕ → Event
+pass_by (Some holder) = pass holder
+pass_by None = silence
 
 abbrev pub event_in : Ring → Event
 event_in ring = pass_by (smallest_holder (stations_of ring) (views_of ring))
 
--- "The fields: kind, from, to (both 0 for S), number of different views afterwards."
+-- a step, with the number of different views afterwards
 abbrev pub stepped_by : Ring → ℕ → Event → Stepped
-stepped_by ring views (pass from) = record { kind = Pass; from = from; to = next (stations_of ring) from; views = views }
-stepped_by ring views silence = record { kind = Silence; from = 0; to = 0; views = views }
+stepped_by ring views (pass from) = record { kind = Pass from (next (stations_of ring) from); views = views }
+stepped_by ring views silence = record { kind = Silence; views = views }
 
 abbrev pub stepped_of : Ring → Stepped
 stepped_of ring =
@@ -29,7 +30,7 @@ stepped_of ring =
 
 -- the letter of the kind
 abbrev pub letter_of : Kind → ℕ
-letter_of Pass = 0x50
+letter_of (Pass from to) = 0x50
 letter_of Silence = 0x53
 
 -- all views are equal
@@ -43,7 +44,7 @@ run_from (suc left) ring = cond (agreed_in ring) [] (event_in ring ∷ run_from 
 
 -- "every view a listed station", and no station 0: what an input can give. Any other value makes no step.
 abbrev pub is_ring : Ring → Bool
-is_ring ring = eqb (unlisted_in ring) 0 && eqb (views_of ring 0) 0
+is_ring ring = is_none (unlisted_in ring) && eqb (views_of ring 0) 0
 
 -- n stations agree in fewer than n×n steps (`settled_run`)
 abbrev pub limit_of : Ring → ℕ

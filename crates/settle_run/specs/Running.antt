@@ -28,7 +28,7 @@ one_more steps = min 4294967295 (steps + 1)
 
 -- the steps so far, with one more
 abbrev pub added_by : Kind → Settled → ℕ → Settled
-added_by Pass settled views = record { passes = one_more settled.passes; silences = settled.silences; views = views }
+added_by (Pass from to) settled views = record { passes = one_more settled.passes; silences = settled.silences; views = views }
 added_by Silence settled views = record { passes = settled.passes; silences = one_more settled.silences; views = views }
 
 abbrev pub added : Settled → Stepped → Settled

@@ -2,7 +2,6 @@
 -- as many steps as the theory of settling says. Assumes nothing.
 use Rattle.laws.specs.Usual.{[], refl, List, ℕ, suc, arith, length}
 use Rattle.std.specs.Prelude.{◌≡◌, ◌∷◌, ◌+◌, ◌⊎◌, zero}
-use Rattle.laws.specs.Tests.{first}
 use Rattle.settling.specs.Steps.{after_all}
 use Rattle.settling.specs.Ring.{Agreed, Event, pass, silence, move, Run, views_after, passes, silences}
 use Rattle.settling.specs.Runs.{Differing}

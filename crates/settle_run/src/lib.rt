@@ -3,23 +3,21 @@
 
 ghost use Rattle.std.specs.Prelude.{◌≡◌};
 ghost use Rattle.settle_run.specs.Run.{is_ring, limit_of};
-ghost use Rattle.settle_run.specs.Running.{one_more, added, running_of, has_ended};
+ghost use Rattle.settle_run.specs.Running.{added, running_of, has_ended};
 
 use settle_views::Ring;
 
-// What a step is, by the letter of its output line.
+// What a step is: the token is passed from a station to a station, or there is a silence.
 #[derive(Clone, Copy)]
 pub enum Kind {
-    Pass,
+    Pass { from: u8, to: u8 },
     Silence,
 }
 
-// A step: from which station to which the token was passed (both 0 in a silence), and the number of different views afterwards.
+// A step, and the number of different views afterwards.
 #[derive(Clone, Copy)]
 pub struct Stepped {
     pub kind: Kind,
-    pub from: u8,
-    pub to: u8,
     pub views: u32,
 }
 
@@ -43,7 +41,7 @@ pub struct Running {
 fn is_ring(ring: Ring) -> bool
     ensures { result ≡ is_ring ring }
 {
-    (settle_views::first_unlisted(ring) == 0) & (ring.views[0] == 0)
+    settle_views::first_unlisted(ring).is_none() & (ring.views[0] == 0)
 }
 
 // How many steps a run is given.
@@ -73,33 +71,24 @@ pub fn begin(ring: Ring) -> Running
     }
 }
 
-fn one_more(steps: u32) -> u32
-    ensures { result ≡ one_more steps }
-{
-    if steps < 4294967295 { steps + 1 } else { steps }
-}
-
-// The steps so far, with one more.
-pub fn add(settled: Settled, stepped: Stepped) -> Settled
-    ensures { result ≡ added settled stepped }
-{
-    let kind = stepped.kind;
-    match kind {
-        Kind::Pass => Settled {
-            passes: one_more(settled.passes),
-            silences: settled.silences,
-            views: stepped.views,
-        },
-        Kind::Silence => Settled {
-            passes: settled.passes,
-            silences: one_more(settled.silences),
-            views: stepped.views,
-        },
+impl Settled {
+    // One step more.
+    pub fn add(&mut self, stepped: Stepped)
+        ensures { self.new ≡ added self.old stepped }
+    {
+        match stepped.kind {
+            Kind::Pass { .. } => self.passes = self.passes.saturating_add(1),
+            Kind::Silence => self.silences = self.silences.saturating_add(1),
+        }
+        self.views = stepped.views;
     }
 }
 
-pub fn has_ended(settled: Settled, left: u32) -> bool
-    ensures { result ≡ has_ended settled left }
-{
-    (left == 0) | (settled.views <= 1)
+impl Running {
+    // No step is left, or the views agree.
+    pub fn has_ended(&self) -> bool
+        ensures { result ≡ has_ended self.now.settled self.now.left }
+    {
+        (self.left == 0) | (self.settled.views <= 1)
+    }
 }

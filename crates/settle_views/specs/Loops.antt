@@ -1,5 +1,5 @@
 -- Laws for loops that go over a ring by the numbers of its stations. Assumes nothing.
-use Rattle.std.specs.Prelude.{◌≡◌, ◌∷◌, ◌+◌, ◌<◌, ◌≤◌}
+use Rattle.std.specs.Prelude.{Some, ◌≡◌, ◌∷◌, ◌+◌, ◌<◌, ◌≤◌}
 use Rattle.laws.specs.Usual.{refl, sym, ap, ◌∙◌, List, [], map, ℕ, arith, length, get_or, drop}
 use Rattle.std.proofs.Common.{add-one, eq-eqb, ne_eqb, drop_of_length-le, drop-cons}
 use Rattle.std.proofs.Math.Decide.{ℕ_discrete}
@@ -51,7 +51,7 @@ module _ (views : List ℕ) (i : ℕ) (h : i < length views) where
           ap (λ (ns : List ℕ). smallest_holder ns f) (stations_first views i h n)
           ∙ rw (ne_eqb (get_or views i 0) i (λ e. n (e ∙ only e)))
 
-  pub holder_first : ¬ (i ≡ 0) → get_or views i 0 ≡ i → smallest_holder (stations_from i (drop i views)) (λ x. get_or views x 0) ≡ i
+  pub holder_first : ¬ (i ≡ 0) → get_or views i 0 ≡ i → smallest_holder (stations_from i (drop i views)) (λ x. get_or views x 0) ≡ Some i
   holder_first n e =
       ap (λ (ns : List ℕ). smallest_holder ns (λ x. get_or views x 0)) (stations_first views i h (λ z. n (sym e ∙ z)))
       ∙ rw (eq-eqb (get_or views i 0) i e)

@@ -1,5 +1,5 @@
 -- A ring whose every view is one of its stations. Assumes nothing.
-use Rattle.std.specs.Prelude.{◌≡◌, ◌∷◌}
+use Rattle.std.specs.Prelude.{◌≡◌, ◌∷◌, None, Some}
 use Rattle.laws.specs.Usual.{refl, sym, ap, subst, ◌∙◌, Bool, true, false, false≢true, List, [], ℕ, suc, arith}
 use mathlib.Core.List.Memᴰ
 use Rattle.std.proofs.Common.{zero-add, eq-eqb, ne_eqb}
@@ -41,17 +41,17 @@ listed_member ring x = go (member x (stations_of ring)) refl
         other (no n) = absurd (false≢true (sym e ∙ in_member x (stations_of ring) (view_station ring x n)))
 
 -- where no line is named, every view is listed
-all_listed : (views : Views) (line : ℕ) (ns : List ℕ) → first_unlisted views (suc line) ns ≡ 0 → (x : ℕ) → x ∈ ns → ¬ (views (views x) ≡ 0)
+all_listed : (views : Views) (line : ℕ) (ns : List ℕ) → first_unlisted views (suc line) ns ≡ None → (x : ℕ) → x ∈ ns → ¬ (views (views x) ≡ 0)
 all_listed views line [] e x m = elim m [ ]
 all_listed views line (y ∷ ns) e x m = go (listed views (views y)) refl (all_listed views (suc line) ns) m
   where
-    go : (t : Bool) → listed views (views y) ≡ t → (first_unlisted views (suc (suc line)) ns ≡ 0 → (x : ℕ) → x ∈ ns → ¬ (views (views x) ≡ 0))
+    go : (t : Bool) → listed views (views y) ≡ t → (first_unlisted views (suc (suc line)) ns ≡ None → (x : ℕ) → x ∈ ns → ¬ (views (views x) ≡ 0))
         → x ∈ (y ∷ ns) → ¬ (views (views x) ≡ 0)
     go true t rest (Memᴰ.head p) = λ z. eqb-false _ _ (not-true _ t) (ap (λ (w : ℕ). views (views w)) (sym p) ∙ z)
     go true t rest (Memᴰ.tail k) = rest (rw t at e) x k
-    go false t rest k = absurd (omega (arith, rw t at e))
+    go false t rest k = absurd (let z : Some (suc line) ≡ None = rw t at e in cc)
 
-pub proper : (ring : Ring) → unlisted_in ring ≡ 0 → views_of ring 0 ≡ 0 → Proper ring
+pub proper : (ring : Ring) → unlisted_in ring ≡ None → views_of ring 0 ≡ 0 → Proper ring
 proper ring e z = record {
   within = λ x m. view_station ring (views_of ring x) (all_listed (views_of ring) 0 (stations_of ring) e x m);
   nobody = z;

@@ -1,5 +1,5 @@
 -- The ring that `settle` works on, and what is looked up in it. Words in quotes are paper 01's.
-use Rattle.std.specs.Prelude.{◌||◌, ◌∷◌}
+use Rattle.std.specs.Prelude.{◌||◌, ◌∷◌, Option, None, Some}
 use Rattle.laws.specs.Usual.{Bool, false, cond, not, List, [], map, ℕ, suc, get_or, eqb}
 use Rattle.settling.specs.Ring.{Views}
 use Rattle.settle_views.specs.declared.Ring.{Ring}
@@ -22,10 +22,10 @@ views_of ring station = get_or ring.views station 0
 abbrev pub listed : Views → ℕ → Bool
 listed views number = not (eqb (views number) 0)
 
--- "It holds when the view is its own number." The first station of the list that holds, or 0 if none does.
-abbrev pub smallest_holder : List ℕ → Views → ℕ
-smallest_holder [] views = 0
-smallest_holder (station ∷ rest) views = cond (eqb (views station) station) station (smallest_holder rest views)
+-- "It holds when the view is its own number." The first station of the list that holds.
+abbrev pub smallest_holder : List ℕ → Views → Option ℕ
+smallest_holder [] views = None
+smallest_holder (station ∷ rest) views = cond (eqb (views station) station) (Some station) (smallest_holder rest views)
 
 abbrev pub member : ℕ → List ℕ → Bool
 member x [] = false
@@ -40,11 +40,10 @@ different (x ∷ rest) = cond (member x rest) (different rest) (suc (different r
 abbrev pub different_views : List ℕ → Views → ℕ
 different_views ns views = different (map views ns)
 
--- "every view a listed station": the line, counted on from `line`, of the first station of a list whose view is not listed, or 0 if
--- there is none
-abbrev pub first_unlisted : Views → ℕ → List ℕ → ℕ
-first_unlisted views line [] = 0
-first_unlisted views line (station ∷ rest) = cond (listed views (views station)) (first_unlisted views (suc line) rest) line
+-- "every view a listed station": the line, counted on from `line`, of the first station of a list whose view is not listed
+abbrev pub first_unlisted : Views → ℕ → List ℕ → Option ℕ
+first_unlisted views line [] = None
+first_unlisted views line (station ∷ rest) = cond (listed views (views station)) (first_unlisted views (suc line) rest) (Some line)
 
-abbrev pub unlisted_in : Ring → ℕ
+abbrev pub unlisted_in : Ring → Option ℕ
 unlisted_in ring = first_unlisted (views_of ring) 1 (stations_of ring)

@@ -12,7 +12,7 @@ loop-view-preserved c =
     let loop = c.loop-view in
     let all : length c.args.old ≡ 256 = search rules in
     let octet : get_or c.args.moves.now loop.view 0 < 256 = omega (arith, c.type_inv.moves loop.view) in
-    carrying_more (omega arith) octet loop.invariant c.sum.result c.sum.ensures
+    carrying_more (omega arith) octet loop.invariant c.saturating_add.result (omega (arith, c.saturating_add.ensures))
 
 pub returns : goal.returns
 returns c =

@@ -1,34 +1,26 @@
 -- `settle_counts::count` meets its contract.
-use Rattle.std.specs.Prelude.{◌≡◌, ◌-◌, ◌<◌}
-use Rattle.laws.specs.Usual.{ap, ◌∙◌, ℕ, arith, get_or, rules}
-use mir.Val.{Fits}
-use mir.Syntax.{w8}
+use Rattle.std.specs.Prelude.{◌≡◌, ◌<◌}
+use Rattle.laws.specs.Usual.{ap, ◌∙◌, ℕ, arith, length, rules}
 use Rattle.settle_counts.specs.Counts.{with_total}
 use Rattle.settle_counts.proofs.Loops.{counting_none, counting_skip, counting_more, counting_all}
 use Rattle.settle_counts.proofs.count.Goals as goal
+use Rattle.settle_counts.proofs.count.Goals.{then-view-ne0, else-view-ne0}
 
-pub loop-station-init : goal.loop-station-init
-loop-station-init c = (counting_none c.args.ring.views (search rules), omega arith)
+pub loop-view-init : goal.loop-view-init
+loop-view-init c = counting_none c.args.ring.views
 
-pub overflow_add-numbers : goal.overflow_add-numbers
-overflow_add-numbers c =
-    let loop = c.loop-station in
-    let fits : Fits w8 (get_or c.args.ring.views (loop.station - 1) 0) = search rules in
-    record { fits = omega (arith, loop.invariant.0.few _ fits.fits) }
-
-pub loop-station-preserved-then-view-ne0 : goal.loop-station-preserved-then-view-ne0
-loop-station-preserved-then-view-ne0 c =
-    let loop = c.loop-station in
-    let fits : Fits w8 (get_or c.args.ring.views (loop.station - 1) 0) = search rules in
-    (counting_more (search rules) c.loop-station-test.true loop.invariant.1 loop.invariant.0 c.if-view-ne0.true fits.fits, omega (arith, loop.invariant.1))
-
-pub loop-station-preserved : goal.loop-station-preserved
-loop-station-preserved c =
-    let loop = c.loop-station in
-    (counting_skip (search rules) c.loop-station-test.true loop.invariant.1 loop.invariant.0 c.if-view-ne0.false, omega (arith, loop.invariant.1))
+pub loop-view-preserved : goal.loop-view-preserved
+loop-view-preserved c =
+    let loop = c.loop-view in
+    let views = c.args.ring.views in
+    let inside : loop.view-index < length views = search rules in
+    elim c.if-view-ne0.branch [
+      | then-view-ne0 w ↦ rw w.numbers-is (counting_more inside loop.invariant w.if-view-ne0.true c.loop-view-test.element_fits.fits)
+      | else-view-ne0 w ↦ rw w.numbers-is (counting_skip inside loop.invariant w.if-view-ne0.false)
+    ]
 
 pub returns : goal.returns
 returns c =
-    let loop = c.loop-station in
-    let none : loop.station ≡ 0 = omega arith in
-    ap (λ (n : ℕ). record { numbers = loop.numbers; total = n }) c.above_zero-total.ensures ∙ ap with_total (counting_all none loop.invariant.0)
+    let loop = c.loop-view in
+    let all : length c.args.ring.views ≡ 256 = search rules in
+    ap (λ (n : ℕ). record { numbers = loop.numbers; total = n }) c.above_zero-total.ensures ∙ ap with_total (counting_all (omega arith) loop.invariant)

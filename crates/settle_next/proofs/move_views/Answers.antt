@@ -1,40 +1,23 @@
 -- `settle_next::move_views` meets its contract.
-use Rattle.std.specs.Prelude.{◌≡◌, ◌-◌, ◌<◌}
-use Rattle.laws.specs.Usual.{refl, ap, ◌∙◌, List, ℕ, arith, length, get_or, set, rules}
-use lib.ListN.{length-set}
+use Rattle.std.specs.Prelude.{◌≡◌, ◌<◌}
+use Rattle.laws.specs.Usual.{ap, ◌∙◌, List, ℕ, length, get_or, set, rules}
+use Rattle.std.proofs.lemmas.List.{get_or_default}
+use Rattle.std.proofs.lemmas.List.Edits.{map_over_more}
 use Rattle.settling.specs.Ring.{silence}
-use Rattle.settle_views.specs.Views.{ring_with, stations_from}
+use Rattle.settle_views.specs.Views.{stations_from}
 use Rattle.settle_moves.specs.Moves.{view_after}
 use Rattle.settle_moves.specs.Each.{at_each}
-use Rattle.settle_moves.specs.Loops.{Mapped, mapped_more, mapped_all}
 use Rattle.settle_next.proofs.move_views.Goals as goal
 
-pub loop-station-init : goal.loop-station-init
-loop-station-init c = (refl, refl)
-
-pub overflow_cast-views : goal.overflow_cast-views
-overflow_cast-views c = record { fits = omega (arith, c.slice_known-1.given c.loop-station.station) }
-
-pub bounds-moves-views : goal.bounds-moves-views
-bounds-moves-views c = omega (arith, c.slice_known-1.given c.loop-station.station)
-
-pub loop-station-preserved : goal.loop-station-preserved
-loop-station-preserved c =
+pub loop-view-preserved : goal.loop-view-preserved
+loop-view-preserved c =
     let a = c.args in
-    let loop = c.loop-station in
+    let loop = c.loop-view in
+    let items = loop.view-items in
     let f = view_after (stations_from 0 a.views.now) silence in
-    let view = get_or loop.views loop.station 0 in
-    let small : view < 256 = omega (arith, c.slice_known-1.given loop.station) in
-    let goes : get_or a.moves.now view 0 ≡ f view = ap (λ (l : List ℕ). get_or l view 0) c.requires ∙ at_each f 256 view small in (
-      ap (set loop.views loop.station) goes ∙ mapped_more f a.views.now loop.views loop.station loop.invariant.0 (omega (arith, loop.invariant.1)),
-      length-set loop.views loop.station (get_or a.moves.now view 0) ∙ loop.invariant.1,
-    )
-
-pub shape_of-views : goal.shape_of-views
-shape_of-views c = c.loop-station.invariant.1
-
-pub returns : goal.returns
-returns c =
-    let views = c.args.views.now in
-    let loop = c.loop-station in
-    ap ring_with (mapped_all (view_after (stations_from 0 views) silence) views loop.views loop.station loop.invariant.0 (omega (arith, loop.invariant.1)))
+    let view = get_or items loop.view-index 0 in
+    let small : view < 256 = search rules in
+    let goes : get_or a.moves.now view 0 ≡ f view = ap (λ (l : List ℕ). get_or l view 0) c.requires ∙ at_each f 256 view small in
+    let within : loop.view-index < length items = search rules in
+    ap (set items loop.view-index) goes
+    ∙ map_over_more f a.views.now items loop.view-index view (search rules) loop.invariant (get_or_default items loop.view-index 0 view within)

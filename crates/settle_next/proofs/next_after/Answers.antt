@@ -1,16 +1,15 @@
 -- `settle_next::next_after` meets its contract.
-use Rattle.std.specs.Prelude.{◌≡◌}
-use Rattle.laws.specs.Usual.{refl, ◌∙◌, arith, length, rules}
-use Rattle.settle_moves.specs.Found.{next_found, next_placed}
+use Rattle.std.specs.Prelude.{◌≡◌, Option}
+use Rattle.laws.specs.Usual.{sym, ap, ◌∙◌, rules}
+use Rattle.std.specs.Option.{option_or, unwrap_or}
+use Rattle.settle_moves.specs.Moves.{first_listed}
+use Rattle.settle_moves.specs.Found.{next_found}
 use Rattle.settle_next.proofs.next_after.Goals as goal
 
 pub returns : goal.returns
 returns c =
-    c.first_listed.ensures
-    ∙ rw (c.first_listed-smallest.ensures, next_found)
-
-pub overflow_cast-result : goal.overflow_cast-result
-overflow_cast-result c =
     let a = c.args in
-    let all : length a.views.now ≡ 256 = search rules in
-    record { fits = omega (arith, returns c, (next_placed a.views.now a.number all (search rules) _ refl).1) }
+    let found : c.or_else.result ≡ option_or c.first_listed-above.result (first_listed 0 a.views.now) = search rules in
+    c.unwrap_or.ensures
+    ∙ ap (λ (o : Option _). unwrap_or o a.number) (found ∙ ap (λ (o : Option _). option_or o (first_listed 0 a.views.now)) c.first_listed-above.ensures)
+    ∙ sym (next_found a.views.now a.number)

@@ -1,6 +1,6 @@
 -- `settle_next::silence_moves` meets its contract.
 use Rattle.laws.specs.Usual.{arith, rules}
-use Rattle.settle_moves.specs.Silent.{Placed, placed_none, placed_listed, placed_unlisted, placed_all}
+use Rattle.settle_moves.specs.Silent.{placed_none, placed_listed, placed_unlisted, placed_all}
 use Rattle.settle_next.proofs.silence_moves.Goals as goal
 
 pub loop-view-init : goal.loop-view-init
@@ -8,34 +8,16 @@ loop-view-init c =
     let views = c.args.views.now in
     placed_none views (search rules) c.first_listed-above.result c.first_listed-above.ensures
 
-pub overflow_sub-view : goal.overflow_sub-view
-overflow_sub-view c = omega arith
-
-pub placed-requires : goal.placed-requires
-placed-requires c = omega (arith, c.loop-view.invariant.inside)
-
-pub bounds-moves-view : goal.bounds-moves-view
-bounds-moves-view c = omega (arith, c.loop-view.invariant.inside)
-
-pub bounds-views-view : goal.bounds-views-view
-bounds-views-view c = omega (arith, c.loop-view.invariant.inside)
-
-pub loop-view-smaller-then-views-view-ne0 : goal.loop-view-smaller-then-views-view-ne0
-loop-view-smaller-then-views-view-ne0 c = omega arith
-
 pub loop-view-preserved-then-views-view-ne0 : goal.loop-view-preserved-then-views-view-ne0
 loop-view-preserved-then-views-view-ne0 c =
     let loop = c.loop-view in
-    let put = c.placed in
+    let put = c.unwrap_or in
     placed_listed c.loop-view-test.true loop.invariant put.result put.ensures c.if-views-view-ne0.true
-
-pub loop-view-smaller : goal.loop-view-smaller
-loop-view-smaller c = omega arith
 
 pub loop-view-preserved : goal.loop-view-preserved
 loop-view-preserved c =
     let loop = c.loop-view in
-    let put = c.placed in
+    let put = c.unwrap_or in
     placed_unlisted c.loop-view-test.true loop.invariant put.result put.ensures c.if-views-view-ne0.false
 
 pub returns : goal.returns

@@ -1,6 +1,5 @@
 -- `settle_output::put_in` meets its contract.
 use borrow.Author.Tests.{lt-ltb, le-ltb}
-use borrow.Author.Rules.{rules}
 use Rattle.settle_output.proofs.put_in.Goals as goal
 
 pub returns-then-output-lt35 : goal.returns-then-output-lt35

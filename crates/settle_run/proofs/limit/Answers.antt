@@ -1,6 +1,6 @@
 -- `settle_run::limit` meets its contract.
 use Rattle.std.specs.Prelude.{◌*◌}
-use Rattle.laws.specs.Usual.{sym, ap, ◌∙◌, ℕ, arith, rules}
+use Rattle.laws.specs.Usual.{ap, ℕ, arith, rules}
 use Rattle.settle_run.proofs.Counted.{square_most}
 use Rattle.settle_run.proofs.limit.Goals as goal
 
@@ -8,9 +8,3 @@ pub overflow_mul-result : goal.overflow_mul-result
 overflow_mul-result c =
     let ring = c.args.ring in
     record { fits = omega (arith, square_most ring (search rules), ap (λ (n : ℕ). n * n) c.stations-count.ensures) }
-
-pub returns-then-is_ring : goal.returns-then-is_ring
-returns-then-is_ring c = rw (sym c.is_ring.ensures ∙ c.if-is_ring.true) (ap (λ (n : ℕ). n * n) c.stations-count.ensures)
-
-pub returns-else-is_ring : goal.returns-else-is_ring
-returns-else-is_ring c = rw (sym c.is_ring.ensures ∙ c.if-is_ring.false)

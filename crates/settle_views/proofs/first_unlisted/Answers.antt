@@ -1,44 +1,22 @@
 -- `settle_views::first_unlisted` meets its contract.
-use Rattle.std.specs.Prelude.{◌≡◌, ◌+◌, ◌-◌, ◌≤◌}
-use Rattle.laws.specs.Usual.{sym, ap, ◌∙◌, arith, length, get_or, drop, rules}
-use native.Mathlib.Numerals.{add-one}
-use borrow.Author.Tests.{eq-eqb, ne_eqb}
-use mir.Val.{Fits}
-use mir.Syntax.{w8}
-use Rattle.settle_views.specs.Views.{stations_from, first_unlisted}
-use Rattle.settle_views.specs.Loops.{stations_end, stations_skip, stations_first}
+use Rattle.std.specs.Prelude.{◌≡◌, ◌+◌}
+use Rattle.laws.specs.Usual.{ap, ◌∙◌, Bool, not, ℕ, eqb, get_or, rules}
+use borrow.Author.Tests.{tests}
+use Rattle.std.specs.List.{filter}
+use Rattle.std.specs.Option.{option_map}
+use Rattle.std.proofs.lemmas.Iterator.{YieldsList-from_slice}
+use Rattle.std.proofs.lemmas.Iterator.Adapters.{position_from-zero}
+use Rattle.std.proofs.lemmas.Iterator.Consumers.{YieldsList-from_filter}
+use Rattle.std.proofs.lemmas.Iterator.Search.{position_from_yields_List}
+use Rattle.settle_views.proofs.Searches.{line_found}
 use Rattle.settle_views.proofs.first_unlisted.Goals as goal
-
-pub bounds-views-view : goal.bounds-views-view
-bounds-views-view c =
-    let small : Fits w8 (get_or c.args.ring.views c.loop-number.number 0) = search rules in
-    small.fits
-
-pub returns-then-views-view-eq0 : goal.returns-then-views-view-eq0
-returns-then-views-view-eq0 c =
-    let views = c.args.ring.views in
-    let loop = c.loop-number in
-    let here = ap (first_unlisted (λ x. get_or views x 0) loop.line) (stations_first views loop.number (search rules) c.if-view-ne0.true) in
-    sym (here ∙ rw (eq-eqb _ _ c.if-views-view-eq0.true)) ∙ loop.invariant.0
-
-pub loop-number-preserved-then-view-ne0 : goal.loop-number-preserved-then-view-ne0
-loop-number-preserved-then-view-ne0 c =
-    let views = c.args.ring.views in
-    let loop = c.loop-number in
-    let here = ap (first_unlisted (λ x. get_or views x 0) loop.line) (stations_first views loop.number (search rules) c.if-view-ne0.true) in
-    (rw (add-one loop.line) (sym (here ∙ rw (ne_eqb _ _ c.if-views-view-eq0.false)) ∙ loop.invariant.0), omega arith)
-
-pub loop-number-preserved : goal.loop-number-preserved
-loop-number-preserved c =
-    let views = c.args.ring.views in
-    let loop = c.loop-number in
-    let here = ap (first_unlisted (λ x. get_or views x 0) loop.line) (stations_skip views loop.number (search rules) c.if-view-ne0.false) in
-    (sym here ∙ loop.invariant.0, omega arith)
 
 pub returns : goal.returns
 returns c =
     let views = c.args.ring.views in
-    let loop = c.loop-number in
-    let all : length views ≡ 256 = search rules in
-    let none = ap (first_unlisted (λ x. get_or views x 0) loop.line) (stations_end views loop.number (omega arith)) in
-    sym none ∙ loop.invariant.0
+    let unlisted : ℕ → Bool = λ view. eqb (get_or views view 0) 0 in
+    let found = position_from_yields_List unlisted _ _ c.position.result c.position.ensures.ran
+    (YieldsList-from_filter _ (λ view. not (eqb view 0)) (YieldsList-from_slice views cc) c.filter-listed.ensures.closure (λ x b q k. search (rules, tests)))
+    (λ x b q k. search (rules, tests)) in
+    let its_line : c.map.result ≡ option_map (λ place. place + 1) c.position.result = search rules in
+    its_line ∙ ap (option_map (λ place. place + 1)) (found ∙ position_from-zero unlisted (filter (λ view. not (eqb view 0)) views)) ∙ line_found views

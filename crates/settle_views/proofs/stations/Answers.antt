@@ -1,25 +1,14 @@
 -- `settle_views::stations` meets its contract.
-use Rattle.std.specs.Prelude.{◌≡◌, ◌+◌, ◌-◌, ◌≤◌}
-use Rattle.laws.specs.Usual.{ap, arith, length, drop, rules}
-use Rattle.settle_views.specs.Views.{stations_from}
-use Rattle.settle_views.specs.Loops.{stations_end, stations_skip, stations_first}
+use Rattle.laws.specs.Usual.{◌∙◌, not, eqb, rules}
+use borrow.Author.Tests.{tests}
+use Rattle.std.proofs.lemmas.Iterator.{YieldsList-from_slice}
+use Rattle.std.proofs.lemmas.Iterator.Consumers.{count_from_yields_List, YieldsList-from_filter}
+use Rattle.settle_views.proofs.Searches.{stations_counted}
 use Rattle.settle_views.proofs.stations.Goals as goal
-
-pub loop-number-preserved-then-view-ne0 : goal.loop-number-preserved-then-view-ne0
-loop-number-preserved-then-view-ne0 c =
-    let views = c.args.ring.views in
-    let next = ap length (stations_first views c.loop-number.number (search rules) c.if-view-ne0.true) in
-    (omega (arith, next, c.loop-number.invariant.0), omega arith)
-
-pub loop-number-preserved : goal.loop-number-preserved
-loop-number-preserved c =
-    let views = c.args.ring.views in
-    let next = ap length (stations_skip views c.loop-number.number (search rules) c.if-view-ne0.false) in
-    (omega (arith, next, c.loop-number.invariant.0), omega arith)
 
 pub returns : goal.returns
 returns c =
     let views = c.args.ring.views in
-    let all : length views ≡ 256 = search rules in
-    let none = ap length (stations_end views c.loop-number.number (omega arith)) in
-    omega (arith, none, c.loop-number.invariant.0)
+    count_from_yields_List c.filter.result _ c.count.ensures.ran
+    (YieldsList-from_filter _ (λ view. not (eqb view 0)) (YieldsList-from_slice views cc) c.filter.ensures.closure (λ x b q k. search (rules, tests)))
+    ∙ stations_counted views

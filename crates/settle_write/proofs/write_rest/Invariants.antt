@@ -6,12 +6,12 @@ use Rattle.settle_print.specs.Parts.{lines_left}
 use Rattle.settle_write.proofs.write_rest.Given as goal
 
 -- what was written, and what is still to be printed, are what was to be printed
-abbrev pub invariant-loop-buffer : goal.invariant-loop-buffer
-invariant-loop-buffer g l =
+abbrev pub invariant-loop-printing : goal.invariant-loop-printing
+invariant-loop-printing g l =
     (length l.buffer ≡ 65536)
     × ((text : List ℕ)
-    × (text ++ rest_of l.now ≡ rest_of l.initial.now)
+    × (text ++ rest_of l.printing ≡ rest_of l.initial.printing)
     × Appends (g.W.Write.contents l.initial.output) (g.W.Write.contents l.output) text)
 
-abbrev pub decreases-loop-buffer : goal.decreases-loop-buffer
-decreases-loop-buffer g l = lines_left l.now
+abbrev pub decreases-loop-printing : goal.decreases-loop-printing
+decreases-loop-printing g l = lines_left l.printing

@@ -1,0 +1,2 @@
+-- What ties the words of this crate to those of the library.
+pub mod Searches
