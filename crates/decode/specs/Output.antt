@@ -1,6 +1,6 @@
 -- What is printed for an input: the answer to each of its lines as a whole, in their order, and `bad` for a last line without its line feed.
 -- Assumes nothing.
-use Rattle.std.specs.Prelude.{◌≡◌, ◌∷◌, ◌++◌}
+use Rattle.std.specs.Prelude.{Option, Some, None, ◌≡◌, ◌∷◌, ◌++◌}
 use Rattle.laws.specs.Usual.{refl, sym, ap, ap₂, ◌∙◌, Bool, cond, List, [], ℕ, arith, length, replicate}
 use Rattle.std.proofs.Common.{length-set}
 use Rattle.decode_answers.specs.Answers.{text_of}
@@ -11,8 +11,6 @@ use Rattle.text_hexadecimal.specs.Hexadecimal.{digit_of}
 use Rattle.decode_line.specs.Line.{line_answer, pushed_all, buffer_all}
 use Rattle.text_scanning.specs.Scanning.{NoFeed}
 use Rattle.decode_line.specs.declared.Gathered.{Gathered}
-use Rattle.text_hexadecimal.specs.declared.Hexadecimal.{Hexadecimal}
-use Rattle.text_hexadecimal.specs.declared.Hexadecimal.TheVariants.{Digit, Other}
 use Rattle.decode_line.specs.declared.Pending.{Pending}
 use Rattle.decode_line.specs.declared.Pending.TheVariants.{Nothing, Half, Bad}
 use Rattle.text_feeding.specs.Lines.{parted, Meaning, replies_to}
@@ -32,14 +30,14 @@ bad_rest [] = []
 bad_rest (octet ∷ rest) = text_of answers.Bad
 
 -- no octet of a line makes the buffer longer or shorter
-length_after : (line : Gathered) (frame : List ℕ) (digit : Hexadecimal) → length (buffer_by line frame digit) ≡ length frame
-length_after line frame (Digit digit) = by line.pending
+length_after : (line : Gathered) (frame : List ℕ) (digit : Option ℕ) → length (buffer_by line frame digit) ≡ length frame
+length_after line frame (Some digit) = by line.pending
   where
-    by : (pending : Pending) → length (buffer_by (record { count = line.count; pending = pending }) frame (Digit digit)) ≡ length frame
+    by : (pending : Pending) → length (buffer_by (record { count = line.count; pending = pending }) frame (Some digit)) ≡ length frame
     by Nothing = refl
     by (Half high) = length-set frame line.count _
     by Bad = refl
-length_after line frame Other = refl
+length_after line frame None = refl
 
 length_all : (room : ℕ) (octets : List ℕ) (line : Gathered) (frame : List ℕ) → length (buffer_all room line frame octets) ≡ length frame
 length_all room [] line frame = refl

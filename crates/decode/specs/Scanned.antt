@@ -1,11 +1,12 @@
 -- A scan of a part of the capture takes it octet by octet. Assumes nothing.
 use Rattle.std.specs.Prelude.{◌≡◌, ◌∷◌}
 use Rattle.laws.specs.Usual.{refl, List, [], ℕ, drop}
-use Rattle.decode_line.specs.Gathering.{pushed, buffer_after, made, scanned, buffer_scanned}
+use Rattle.decode_line.specs.Gathering.{pushed, buffer_after, scanned, buffer_scanned}
 use Rattle.decode_line.specs.Line.{pushed_all, buffer_all}
 use Rattle.text_scanning.proofs.Scans.{scan_part, buffer_part, scan_line, buffer_line}
 use Rattle.decode_line.specs.declared.Gathered.{Gathered}
-use Rattle.decode_line.specs.declared.Scanned.{Scanned}
+use Rattle.text_scanning.specs.declared.Scanned.{Scanned}
+use Rattle.text_scanning.specs.Made.{made}
 use Rattle.text_feeding.proofs.Cut.{cut}
 use Rattle.text_feeding.specs.Cut.{Cut, feed, clean}
 use Rattle.text_feeding.proofs.Scan.{scan_feed, scan_clean, Scan}
@@ -19,8 +20,8 @@ pushed_both room [] line frame = refl
 pushed_both room (octet ∷ octets) line frame = pushed_both room octets (pushed room line octet) (buffer_after line frame octet)
 
 module _ (room : ℕ) (line : Gathered) (frame part : List ℕ) (at : ℕ) where
-  abbrev Scans : Scanned → List ℕ → Type 0
-  Scans result after = Scan (decode room) (carried line frame) part at (carried result.gathered after) result.next result.ended
+  abbrev Scans : Scanned Gathered → List ℕ → Type 0
+  Scans result after = Scan (decode room) (carried line frame) part at (carried result.line after) result.next result.ended
 
   pub scan_taken : Scans (scanned room line at (drop at part)) (buffer_scanned room line frame (drop at part))
   scan_taken = by (cut (drop at part))

@@ -2,8 +2,8 @@
 // the libraries decoding and answering; here the input is only handed to them, part by part.
 #![tactic(auto)]
 
-ghost use Rattle.std.specs.Prelude.{◌≡◌, ◌<◌};
-ghost use Rattle.laws.specs.Usual.{List, ℕ, length, take, replicate};
+ghost use Rattle.std.specs.Prelude.{Some, None, ◌≡◌, ◌<◌};
+ghost use Rattle.laws.specs.Usual.{cond, List, ℕ, length, take, replicate};
 ghost use Rattle.copying.specs.Pasted.{pasted};
 ghost use Rattle.decode_line.specs.Gathering.{fresh};
 ghost use Rattle.text_feeding.specs.Feeding.{between, ended, Forward, Onward, Taken, Arrived};
@@ -13,17 +13,17 @@ use decode_line::{Answer, Gathered};
 use std::io;
 use text_feeding::Streams;
 
-// What the next line feed, or the end of a part, leaves: the line so far, the place behind, whether a line has ended there, and the length of
-// its answer.
+// What the next line feed, or the end of a part, leaves: the line so far, the place behind, and how long the answer is to a line that has
+// ended there.
 #[derive(Clone, Copy)]
 struct Next {
     line: Gathered,
     at: usize,
-    ended: bool,
-    length: usize,
+    answer: Option<usize>,
 }
 
-// The line so far, the place in the part of the input that is being read, and whether to go on.
+// The line so far, the place in the part of the input that is being read, and whether to go on. Line and place hold either way, so it is no
+// Option.
 #[derive(Clone, Copy)]
 struct Going {
     line: Gathered,
@@ -34,29 +34,25 @@ struct Going {
 // Takes the part from place `at` on, up to its next line feed or its end, and puts the answer to a line that has ended in front of the text.
 fn take_next(line: Gathered, part: &[u8], at: usize, frame: &mut [u8], text: &mut [u8; 160]) -> Next
     ensures frame_after { carried result.line frame.new ≡ after line frame.old (between at result.at part.now) }
-    ensures length_value { result.length ≡ length (answers line frame.old (between at result.at part.now)) }
+    ensures answer_value { result.answer ≡ cond (ended part.now at result.at) (Some (length (answers line frame.old (between at result.at part.now)))) None }
     ensures text_after { text.new ≡ pasted text.old 0 (answers line frame.old (between at result.at part.now)) }
-    ensures ended_value { result.ended ≡ ended part.now at result.at }
     ensures forward { at < length part.now → Forward part.now at result.at }
 {
     let scanned = decode_scanning::scan(line, part, at, frame);
-    let rest = scanned.gathered;
-    let to = scanned.next;
+    let rest = scanned.line;
     if scanned.ended {
         let length = decode_answers::put_answer(decode_line::answer_to(rest, frame), text);
         let fresh = decode_line::start();
         return Next {
             line: fresh,
-            at: to,
-            ended: true,
-            length,
+            at: scanned.next,
+            answer: Some(length),
         };
     }
     Next {
         line: rest,
-        at: to,
-        ended: false,
-        length: 0,
+        at: scanned.next,
+        answer: None,
     }
 }
 
@@ -88,21 +84,17 @@ fn decode_next(
 {
     let mut text = [0u8; 160];
     let next = take_next(line, part, at, frame, &mut text);
-    let rest = next.line;
-    let to = next.at;
-    let length = next.length;
-    if next.ended {
-        let on = write_answer(streams, line, part, at, to, &text[0..length]);
-        return Going {
-            line: rest,
-            at: to,
-            on,
-        };
-    }
-    Going {
-        line: rest,
-        at: to,
-        on: true,
+    match next.answer {
+        Some(length) => Going {
+            line: next.line,
+            at: next.at,
+            on: write_answer(streams, line, part, at, next.at, &text[..length]),
+        },
+        None => Going {
+            line: next.line,
+            at: next.at,
+            on: true,
+        },
     }
 }
 
@@ -116,9 +108,9 @@ fn decode_part(streams: &mut Streams, line: Gathered, part: &[u8], frame: &mut [
         at: 0,
         on: true,
     };
+    // No `for`: how far a step goes the step itself tells.
     while going.on && going.at < part.len() {
-        let rest = going.line;
-        going = decode_next(streams, rest, part, going.at, frame);
+        going = decode_next(streams, going.line, part, going.at, frame);
     }
     going
 }
@@ -130,30 +122,25 @@ fn decode_some(streams: &mut Streams, line: Gathered, part: &mut [u8], frame: &m
 {
     let read = streams.read_some(part);
     let going = decode_part(streams, line, &part[0..read], frame);
-    let rest = going.line;
     Going {
-        line: rest,
-        at: going.at,
         on: going.on & (0 < read),
+        ..going
     }
 }
 
-// A proved loop has to end, and nothing says that the input does. So the loop counts its turns down, from a number that no run uses up.
+// A proved loop has to end, and nothing says that the input does. So the loop counts its turns, up to a number that no run comes to.
 fn decode_all(streams: &mut Streams, part: &mut [u8], frame: &mut [u8]) -> Gathered
     ensures { (input : List ℕ) × (carried result frame.new ≡ after fresh frame.old input) }
 {
-    let mut going = Going {
-        line: decode_line::start(),
-        at: 0,
-        on: true,
-    };
-    let mut turns = u64::MAX;
-    while going.on && 0 < turns {
-        let rest = going.line;
-        going = decode_some(streams, rest, part, frame);
-        turns -= 1;
+    let mut line = decode_line::start();
+    for _ in 0..u64::MAX {
+        let going = decode_some(streams, line, part, frame);
+        line = going.line;
+        if !going.on {
+            break;
+        }
     }
-    going.line
+    line
 }
 
 // The longest frame that is read has 1120 octets. One octet more tells a longer one from it.

@@ -1,10 +1,9 @@
 -- The line that is printed for each answer.
-use Rattle.std.specs.Prelude.{◌∷◌}
+use Rattle.std.specs.Prelude.{Ok, Err, ◌∷◌}
 use Rattle.laws.specs.Usual.{List, [], ℕ}
 use Rattle.frame.specs.Codes.{code_number}
 use Rattle.frame_refusals.specs.Refusals.{number_of}
 use Rattle.frame.specs.declared.Fields.{Fields}
-use Rattle.frame_reading.specs.declared.Read.TheVariants.{Frame, Refused}
 use Rattle.text.specs.Lines.{line_of}
 use Rattle.decode_line.specs.declared.Answer.{Answer}
 use Rattle.decode_line.specs.declared.Answer.TheVariants.{Heard, Bad}
@@ -37,6 +36,6 @@ abbrev pub bad_word : List ℕ
 bad_word = 0x62 ∷ 0x61 ∷ 0x64 ∷ []
 
 unfoldable pub text_of : Answer → List ℕ
-text_of (Heard (Frame fields)) = line_of frame_word (field_numbers fields)
-text_of (Heard (Refused refusal)) = line_of refused_word (number_of refusal ∷ [])
+text_of (Heard (Ok fields)) = line_of frame_word (field_numbers fields)
+text_of (Heard (Err refusal)) = line_of refused_word (number_of refusal ∷ [])
 text_of Bad = line_of bad_word []

@@ -10,28 +10,25 @@ ghost use Rattle.decode_answers.specs.Answers.{field_numbers, frame_word, refuse
 
 use decode_line::Answer;
 use frame::{Fields, Refusal};
-use frame_reading::Read;
 
 fn field_numbers(fields: Fields) -> [u32; 12]
     ensures { result ≡ field_numbers fields }
 {
-    let code = fields.code;
     let one = fields.areas.one;
     let two = fields.areas.two;
-    let watch = fields.watch;
     [
         fields.length,
-        fields.source as u32,
-        fields.destination as u32,
-        frame::number_of_code(code) as u32,
-        one.address as u32,
-        one.size as u32,
-        two.address as u32,
-        two.size as u32,
-        fields.block as u32,
-        fields.blocks as u32,
-        fields.size as u32,
-        watch.0 as u32,
+        u32::from(fields.source),
+        u32::from(fields.destination),
+        u32::from(u16::from(fields.code)),
+        u32::from(one.address),
+        u32::from(one.size),
+        u32::from(two.address),
+        u32::from(two.size),
+        u32::from(fields.block),
+        u32::from(fields.blocks),
+        u32::from(fields.size),
+        u32::from(fields.watch.0),
     ]
 }
 
@@ -47,7 +44,7 @@ fn put_refused(refusal: Refusal, output: &mut [u8; 160]) -> usize
     ensures value { result ≡ length (line_of refused_word (number_of refusal ∷ [])) }
     ensures output_after { output.new ≡ pasted output.old 0 (line_of refused_word (number_of refusal ∷ [])) }
 {
-    let numbers = [frame_refusals::number_of(refusal) as u32];
+    let numbers = [u32::from(frame_refusals::number_of(refusal))];
     text::put_line(b"refused", &numbers, output)
 }
 
@@ -55,8 +52,7 @@ fn put_bad(output: &mut [u8; 160]) -> usize
     ensures value { result ≡ length (line_of bad_word []) }
     ensures output_after { output.new ≡ pasted output.old 0 (line_of bad_word []) }
 {
-    let numbers = [0u32; 1];
-    text::put_line(b"bad", &numbers[0..0], output)
+    text::put_line(b"bad", &[], output)
 }
 
 // Writes the line in front of the output, and answers its length.
@@ -65,9 +61,10 @@ pub fn put_answer(answer: Answer, output: &mut [u8; 160]) -> usize
     ensures output_after { output.new ≡ pasted output.old 0 (text_of answer) }
 {
     match answer {
+        // Not in one pattern, `Heard(Ok(fields))`: tried, and what it says of the answer did not rewrite the goal of `returns-in-Heard-Ok`.
         Answer::Heard(read) => match read {
-            Read::Frame(fields) => put_frame(fields, output),
-            Read::Refused(refusal) => put_refused(refusal, output),
+            Ok(fields) => put_frame(fields, output),
+            Err(refusal) => put_refused(refusal, output),
         },
         Answer::Bad => put_bad(output),
     }

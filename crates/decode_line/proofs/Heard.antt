@@ -1,6 +1,6 @@
 -- A line that came octet by octet, into a buffer of 1121 octets or more, is answered as the whole line is: a frame of more octets than the
 -- buffer has is refused like one that just does not fit. Assumes nothing.
-use Rattle.std.specs.Prelude.{◌≡◌, ◌∷◌, ◌++◌, ◌+◌, ◌*◌, ◌<◌, ◌≤◌}
+use Rattle.std.specs.Prelude.{Option, Some, None, Err, ◌≡◌, ◌∷◌, ◌++◌, ◌+◌, ◌*◌, ◌<◌, ◌≤◌}
 use Rattle.laws.specs.Usual.{refl, sym, ap, ◌∙◌, List, [], ℕ, arith, length, take, set}
 use Rattle.std.proofs.Common.{append-nil, append_assoc, add-one, length-set, length-take-le, take_all, take-suc-set, lt-ltb, le-ltb, le-leb}
 use Rattle.std.proofs.Math.Decide.{dec_le, dec_lt}
@@ -9,15 +9,12 @@ use Rattle.std.proofs.Math.Seq.{set_out}
 use Rattle.std.proofs.lemmas.Bool.{lt-leb}
 use Rattle.frame.specs.declared.Refusal.TheVariants.{Cut}
 use Rattle.frame_reading.specs.Reading.{read_of}
-use Rattle.frame_reading.specs.declared.Read.TheVariants.{Refused}
 use Rattle.text_hexadecimal.specs.Digits.{Below, digit_below}
 use Rattle.decode_line.specs.Gathering.{fresh, octet_of, count_after, pushed_by, buffer_by, answer_by, answered}
 use Rattle.text_hexadecimal.specs.Hexadecimal.{Spelled, octets, neither, joined, spelled, digit_of}
 use Rattle.decode_line.specs.Line.{answer_for, line_answer, pushed_all, buffer_all}
 use Rattle.decode_line.specs.declared.Answer.{Answer}
 use Rattle.decode_line.specs.declared.Gathered.{Gathered}
-use Rattle.text_hexadecimal.specs.declared.Hexadecimal.{Hexadecimal}
-use Rattle.text_hexadecimal.specs.declared.Hexadecimal.TheVariants.{Digit, Other}
 use Rattle.decode_line.specs.declared.Pending.TheVariants.{Nothing, Bad}
 use Rattle.decode_line.specs.declared.Answer.TheVariants as answers
 
@@ -33,9 +30,9 @@ bad_stays : (room count : ℕ) (line : List ℕ) → (pushed_all room (spoilt co
 bad_stays room count [] = refl
 bad_stays room count (octet ∷ line) = by (digit_of octet) (bad_stays room count line)
   where
-    by : (digit : Hexadecimal) → (pushed_all room (spoilt count) line).pending ≡ Bad → (pushed_all room (pushed_by room (spoilt count) digit) line).pending ≡ Bad
-    by (Digit d) more = more
-    by Other more = more
+    by : (digit : Option ℕ) → (pushed_all room (spoilt count) line).pending ≡ Bad → (pushed_all room (pushed_by room (spoilt count) digit) line).pending ≡ Bad
+    by (Some d) more = more
+    by None more = more
 
 bad_answer : (gathered : Gathered) (buffer : List ℕ) → gathered.pending ≡ Bad → answered gathered buffer ≡ answers.Bad
 bad_answer gathered buffer e = ap (answer_by gathered.count buffer) e
@@ -62,13 +59,13 @@ octet_of_lem : (high low : ℕ) → high < 16 → low < 16 → octet_of high low
 octet_of_lem high low p q = omega arith
 
 -- one octet alone spells nothing
-alone : (room count : ℕ) (buffer : List ℕ) (digit : Hexadecimal) → answered (pushed_by room (even count) digit) (buffer_by (even count) buffer digit) ≡ answers.Bad
-alone room count buffer (Digit d) = refl
-alone room count buffer Other = refl
+alone : (room count : ℕ) (buffer : List ℕ) (digit : Option ℕ) → answered (pushed_by room (even count) digit) (buffer_by (even count) buffer digit) ≡ answers.Bad
+alone room count buffer (Some d) = refl
+alone room count buffer None = refl
 
 -- a pair of digits spells one octet more
 paired : (room count : ℕ) (buffer : List ℕ) (high low : ℕ) (rest : Spelled) → length buffer ≡ room → count ≤ room → high < 16 → low < 16 →
-    answer_behind room (take (count_after room count) (set buffer count (octet_of high low))) rest ≡ answer_behind room (take count buffer) (joined (Digit high) (Digit low) rest)
+    answer_behind room (take (count_after room count) (set buffer count (octet_of high low))) rest ≡ answer_behind room (take count buffer) (joined (Some high) (Some low) rest)
 paired room count buffer high low (octets frame) full h p q =
     ap (λ (s : List ℕ). answers.Heard (read_of s))
     (store_one room count (octet_of high low) buffer frame full h
@@ -83,7 +80,7 @@ count_within room count h = by (dec_lt count room)
     by (no outside) = rw (le-ltb count room (omega arith)) h
 
 -- the claim of `gather` for a line that two octets begin, by what these stand for
-abbrev After : ℕ → ℕ → List ℕ → List ℕ → Hexadecimal → Hexadecimal → Type 0
+abbrev After : ℕ → ℕ → List ℕ → List ℕ → Option ℕ → Option ℕ → Type 0
 After room count buffer line a b =
     answered (pushed_all room (pushed_by room (pushed_by room (even count) a) b) line)
     (buffer_all room (pushed_by room (pushed_by room (even count) a) b) (buffer_by (pushed_by room (even count) a) (buffer_by (even count) buffer a) b) line)
@@ -99,16 +96,16 @@ gather (first ∷ second ∷ line) room count buffer full h =
     by (digit_of first) (digit_below first) (digit_of second) (digit_below second) (λ octet.
     gather line room (count_after room count) (set buffer count octet) (length-set buffer count octet ∙ full) (count_within room count h))
   where
-    by : (a : Hexadecimal) → Below a → (b : Hexadecimal) → Below b →
+    by : (a : Option ℕ) → Below a → (b : Option ℕ) → Below b →
         ((octet : ℕ) → answered (pushed_all room (even (count_after room count)) line) (buffer_all room (even (count_after room count)) (set buffer count octet) line)
         ≡ answer_behind room (take (count_after room count) (set buffer count octet)) (spelled line)) → After room count buffer line a b
-    by (Digit x) p (Digit y) q more = more (octet_of x y) ∙ paired room count buffer x y (spelled line) full h p q
-    by (Digit x) p Other q more = bad_answer _ _ (bad_stays room count line)
-    by Other p (Digit y) q more = bad_answer _ _ (bad_stays room count line)
-    by Other p Other q more = bad_answer _ _ (bad_stays room count line)
+    by (Some x) p (Some y) q more = more (octet_of x y) ∙ paired room count buffer x y (spelled line) full h p q
+    by (Some x) p None q more = bad_answer _ _ (bad_stays room count line)
+    by None p (Some y) q more = bad_answer _ _ (bad_stays room count line)
+    by None p None q more = bad_answer _ _ (bad_stays room count line)
 
 -- a list of more than 1120 octets is refused by number 1
-cut_off : (s : List ℕ) → 1120 < length s → read_of s ≡ Refused Cut
+cut_off : (s : List ℕ) → 1120 < length s → read_of s ≡ Err Cut
 unfolding read_of
 cut_off s h = simp (le-leb 64 (length s) (omega arith), lt-leb (length s) 1120 h)
 

@@ -1,16 +1,15 @@
 -- A line that comes octet by octet, into a buffer of limited length.
-use Rattle.std.specs.Prelude.{◌+◌, ◌*◌, ◌%◌}
-use Rattle.laws.specs.Usual.{Bool, true, cond, List, ℕ, length, take, set, ltb}
+use Rattle.std.specs.Prelude.{Option, Some, None, ◌+◌, ◌*◌, ◌%◌}
+use Rattle.laws.specs.Usual.{Bool, true, cond, List, ℕ, take, set, ltb}
 use Rattle.frame_reading.specs.Reading.{read_of}
 use Rattle.text_hexadecimal.specs.Hexadecimal.{digit_of}
 use Rattle.text_scanning.specs.Scanning.{scan_of, buffer_of}
 use Rattle.decode_line.specs.declared.Answer.{Answer}
 use Rattle.decode_line.specs.declared.Gathered.{Gathered}
-use Rattle.text_hexadecimal.specs.declared.Hexadecimal.{Hexadecimal}
-use Rattle.text_hexadecimal.specs.declared.Hexadecimal.TheVariants.{Digit, Other}
 use Rattle.decode_line.specs.declared.Pending.{Pending}
 use Rattle.decode_line.specs.declared.Pending.TheVariants.{Nothing, Half, Bad}
-use Rattle.decode_line.specs.declared.Scanned.{Scanned}
+use Rattle.text_scanning.specs.declared.Scanned.{Scanned}
+use Rattle.text_scanning.specs.Made.{made}
 use Rattle.decode_line.specs.declared.Answer.TheVariants as answers
 
 -- a line of which nothing has come
@@ -38,13 +37,13 @@ stored count digit buffer (Half high) = set buffer count (octet_of high digit)
 stored count digit buffer Bad = buffer
 
 -- what has come after one more octet of the line, and the buffer then
-abbrev pub pushed_by : ℕ → Gathered → Hexadecimal → Gathered
-pushed_by room gathered (Digit digit) = placed room gathered.count digit gathered.pending
-pushed_by room gathered Other = record { count = gathered.count; pending = Bad }
+abbrev pub pushed_by : ℕ → Gathered → Option ℕ → Gathered
+pushed_by room gathered (Some digit) = placed room gathered.count digit gathered.pending
+pushed_by room gathered None = record { count = gathered.count; pending = Bad }
 
-abbrev pub buffer_by : Gathered → List ℕ → Hexadecimal → List ℕ
-buffer_by gathered buffer (Digit digit) = stored gathered.count digit buffer gathered.pending
-buffer_by gathered buffer Other = buffer
+abbrev pub buffer_by : Gathered → List ℕ → Option ℕ → List ℕ
+buffer_by gathered buffer (Some digit) = stored gathered.count digit buffer gathered.pending
+buffer_by gathered buffer None = buffer
 
 abbrev pub pushed : ℕ → Gathered → ℕ → Gathered
 pushed room gathered octet = pushed_by room gathered (digit_of octet)
@@ -72,10 +71,7 @@ begun gathered = begun_by gathered.count gathered.pending
 
 -- the octets of a text from place `at` on, up to its next line feed or its end: what has come then, the place behind, and whether the line
 -- has ended
-abbrev pub made : Gathered → ℕ → Bool → Scanned
-made gathered next ended = record { gathered = gathered; next = next; ended = ended }
-
-abbrev pub scanned : ℕ → Gathered → ℕ → List ℕ → Scanned
+abbrev pub scanned : ℕ → Gathered → ℕ → List ℕ → Scanned Gathered
 scanned room gathered at text = scan_of (pushed room) made gathered at text
 
 -- and the buffer then

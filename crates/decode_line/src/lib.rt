@@ -3,11 +3,13 @@
 #![tactic(auto)]
 
 ghost use Rattle.std.specs.Prelude.{◌≡◌};
-ghost use Rattle.laws.specs.Usual.{take};
+ghost use Rattle.laws.specs.Usual.{length, take, set};
 ghost use Rattle.frame_reading.specs.Reading.{read_of};
-ghost use Rattle.decode_line.specs.Gathering.{fresh, answered, begun};
+ghost use Rattle.decode_line.specs.Gathering.{fresh, octet_of, count_after, placed, stored, pushed, buffer_after, answered, begun};
 
-use frame_reading::Read;
+use frame::{Fields, Refusal};
+use text_hexadecimal::digit_of;
+use text_scanning::Gathers;
 
 // How far a line has come.
 #[derive(Clone, Copy)]
@@ -27,18 +29,10 @@ pub struct Gathered {
     pub pending: Pending,
 }
 
-// What a part of a text did to a line: what has come of the line, the place in the text behind it, and whether the line has ended.
-#[derive(Clone, Copy)]
-pub struct Scanned {
-    pub gathered: Gathered,
-    pub next: usize,
-    pub ended: bool,
-}
-
-// What is answered to a line.
+// What is answered to a line: one of the three words `frame`, `refused` and `bad`. An Option would leave the last without its name.
 #[derive(Clone, Copy)]
 pub enum Answer {
-    Heard(Read),
+    Heard(Result<Fields, Refusal>),
     Bad,
 }
 
@@ -49,15 +43,63 @@ pub fn start() -> Gathered
     Gathered { count: 0, pending }
 }
 
-// What was stored at the front of the buffer, read as a frame.
-fn hear(count: usize, buffer: &[u8]) -> Read
-    ensures { result ≡ read_of (take count buffer.now) }
+// Stores an octet, where the buffer has room for it.
+fn store(count: usize, octet: u8, buffer: &mut [u8]) -> usize
+    ensures value { result ≡ count_after (length buffer.old) count }
+    ensures buffer_after { buffer.new ≡ set buffer.old count octet }
 {
     if count < buffer.len() {
-        frame_body::read_frame(&buffer[0..count])
-    } else {
-        frame_body::read_frame(buffer)
+        buffer[count] = octet;
+        return count + 1;
     }
+    count
+}
+
+fn octet_of(high: u8, low: u8) -> u8
+    ensures { result ≡ octet_of high low }
+{
+    high % 16 * 16 + low % 16
+}
+
+fn place(count: usize, pending: Pending, digit: u8, buffer: &mut [u8]) -> Gathered
+    ensures value { result ≡ placed (length buffer.old) count digit pending }
+    ensures buffer_after { buffer.new ≡ stored count digit buffer.old pending }
+{
+    match pending {
+        Pending::Nothing => Gathered {
+            count,
+            pending: Pending::Half(digit),
+        },
+        Pending::Half(high) => Gathered {
+            count: store(count, octet_of(high, digit), buffer),
+            pending: Pending::Nothing,
+        },
+        Pending::Bad => Gathered { count, pending },
+    }
+}
+
+// Each pair of digits is stored as an octet.
+impl Gathers for Gathered {
+    ghost pushed = { pushed };
+
+    ghost stored = { buffer_after };
+
+    fn push(self, octet: u8, buffer: &mut [u8]) -> Gathered {
+        match digit_of(octet) {
+            Some(digit) => place(self.count, self.pending, digit, buffer),
+            None => Gathered {
+                count: self.count,
+                pending: Pending::Bad,
+            },
+        }
+    }
+}
+
+// What was stored at the front of the buffer, read as a frame.
+fn hear(count: usize, buffer: &[u8]) -> Result<Fields, Refusal>
+    ensures { result ≡ read_of (take count buffer.now) }
+{
+    frame_body::read_frame(buffer.get(..count).unwrap_or(buffer))
 }
 
 // The answer to a line that has come whole.

@@ -1,46 +1,31 @@
 -- `decode::decode_all` meets its contract.
-use Rattle.std.specs.Prelude.{◌++◌}
-use Rattle.laws.specs.Usual.{refl, sym, ap, ◌∙◌, [], ℕ, arith, length, take}
-use borrow.Author.Tests.{ltb-true}
+use Rattle.std.specs.Prelude.{◌≡◌, ◌++◌}
+use Rattle.laws.specs.Usual.{sym, ap, ◌∙◌, List, ℕ, length, take}
 use Rattle.decode_line.specs.Gathering.{fresh}
-use Rattle.decode_line.specs.declared.Gathered.{Gathered}
 use Rattle.text_feeding.specs.Feeding.{fed_all}
 use Rattle.text_feeding.proofs.Fed.{fed_parts}
-use Rattle.decode.specs.Capture.{Carried, carried, decode}
+use Rattle.decode.specs.Capture.{Carried, carried, after, decode}
 use Rattle.decode.proofs.decode_all.Goals as goal
 
-pub loop-going-init : goal.loop-going-init
-loop-going-init c = (([], ap (λ (line : Gathered). carried line c.args.frame.now) c.start.ensures), refl, refl)
+-- a line and a buffer that some input left, where the buffer was another at the start
+abbrev Came : List ℕ → Carried → Type 0
+Came start now = (input : List ℕ) × (now ≡ after fresh start input)
 
-pub overflow_sub-turns : goal.overflow_sub-turns
-overflow_sub-turns c = omega (arith, ltb-true)
+-- some more of the input
+came_more : (start more : List ℕ) (now next : Carried) → length now.frame ≡ length start → Came start now → next ≡ after now.line now.frame more → Came start next
+came_more start more now next full came e = (
+  came.0 ++ more,
+  e ∙ ap (λ (n : ℕ). fed_all (decode n) now more) full
+      ∙ ap (λ (state : Carried). fed_all (decode (length start)) state more) came.1
+      ∙ sym (fed_parts (decode (length start)) came.0 more (carried fresh start)),
+)
 
-pub loop-going-smaller : goal.loop-going-smaller
-loop-going-smaller c = omega (arith, ltb-true)
-
-pub loop-going-preserved : goal.loop-going-preserved
-loop-going-preserved c =
-    let a = c.args in
-    let l = c.loop-going in
+pub loop-preserved : goal.loop-preserved
+loop-preserved c =
     let done = c.decode_some-going in
-    let more = take done.result.at done.new.part in
-    let input = l.invariant.0.0 in (
-      (
-        input ++ more,
-        done.ensures.frame_after
-            ∙ ap (λ (n : ℕ). fed_all (decode n) (carried l.going.line l.frame) more) l.invariant.2
-            ∙ ap (λ (state : Carried). fed_all (decode (length a.frame.now)) state more) l.invariant.0.1
-            ∙ sym (fed_parts (decode (length a.frame.now)) input more (carried fresh a.frame.now)),
-      ),
-      done.auto.part ∙ l.invariant.1,
-      done.auto.frame ∙ l.invariant.2,
-    )
+    record { came = came_more c.args.frame.now (take done.result.at done.new.part) (carried c.loop.line c.loop.frame) _ c.loop.auto.frame c.loop.invariant.came done.ensures.frame_after }
 
-pub shape_of-part : goal.shape_of-part
-shape_of-part c = c.loop-going.invariant.1
-
-pub shape_of-frame : goal.shape_of-frame
-shape_of-frame c = c.loop-going.invariant.2
-
-pub returns : goal.returns
-returns c = c.loop-going.invariant.0
+pub returns-then-not-going : goal.returns-then-not-going
+returns-then-not-going c =
+    let done = c.decode_some-going in
+    came_more c.args.frame.now (take done.result.at done.new.part) (carried c.loop.line c.loop.frame) _ c.loop.auto.frame c.loop.invariant.came done.ensures.frame_after

@@ -1,15 +1,14 @@
 -- `decode_answers::put_answer` meets its contract.
 use Rattle.decode_answers.specs.Answers.{text_of}
-use borrow.Author.Rules.{rules}
 use Rattle.decode_answers.proofs.put_answer.Goals as goal
 
-pub returns-in-Frame : goal.returns-in-Frame
+pub returns-in-Ok : goal.returns-in-Ok
 unfolding text_of
-returns-in-Frame c = rw (c.in-Heard.is, c.in-Frame.is) c.put_frame.ensures
+returns-in-Ok c = rw (c.in-Heard.is, c.in-Ok.is) c.put_frame.ensures
 
-pub returns-in-Refused : goal.returns-in-Refused
+pub returns-in-Err : goal.returns-in-Err
 unfolding text_of
-returns-in-Refused c = rw (c.in-Heard.is, c.in-Refused.is) c.put_refused.ensures
+returns-in-Err c = rw (c.in-Heard.is, c.in-Err.is) c.put_refused.ensures
 
 pub returns-in-Bad : goal.returns-in-Bad
 unfolding text_of
