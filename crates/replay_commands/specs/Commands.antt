@@ -1,5 +1,5 @@
 -- What a line means: the table of commands. Words in quotes are the table's.
-use Rattle.std.specs.Prelude.{◌&&◌, ◌∷◌, ◌+◌}
+use Rattle.std.specs.Prelude.{Option, Some, None, ◌&&◌, ◌∷◌, ◌+◌}
 use Rattle.laws.specs.Usual.{cond, List, [], ℕ, length, get_or, take, drop, leb, ltb}
 use Rattle.replay_input.specs.Gathering.{longest, size_in}
 use Rattle.replay_input.specs.declared.Line.{Line}
@@ -41,6 +41,11 @@ poke_space = 0x70 ∷ 0x6f ∷ 0x6b ∷ 0x65 ∷ space ∷ []
 abbrev pub peek_space : List ℕ
 peek_space = 0x70 ∷ 0x65 ∷ 0x65 ∷ 0x6b ∷ space ∷ []
 
+-- what a command with a number says; with a word that is no number it is bad
+abbrev pub with_number : Option ℕ → (ℕ → Command) → Command
+with_number (Some number) says = says number
+with_number None says = Bad
+
 -- "`start N AD1 SZ1 AD2 SZ2 W`"; bad are "numbers over 65,535 where no range is named; N and W above 255"
 abbrev pub start_by : ℕ → ℕ → ℕ → ℕ → ℕ → ℕ → Command
 start_by n ad1 sz1 ad2 sz2 w =
@@ -52,23 +57,28 @@ start_by n ad1 sz1 ad2 sz2 w =
     }))
     Bad
 
+-- by its six words, each a number or none
+abbrev pub start_with : Option ℕ → Option ℕ → Option ℕ → Option ℕ → Option ℕ → Option ℕ → Command
+start_with number address1 size1 address2 size2 watch =
+    with_number number (λ n. with_number address1 (λ ad1. with_number size1 (λ sz1.
+    with_number address2 (λ ad2. with_number size2 (λ sz2. with_number watch (λ w. start_by n ad1 sz1 ad2 sz2 w))))))
+
 -- six words: a seventh is too many, and where there are fewer, the missing one is no number
 abbrev pub start_of : List (List ℕ) → Command
 start_of words =
     cond (leb (length words) 6)
-    (start_by (number_in words 0) (number_in words 1) (number_in words 2) (number_in words 3) (number_in words 4) (number_in words 5))
+    (start_with (number_in words 0) (number_in words 1) (number_in words 2) (number_in words 3) (number_in words 4) (number_in words 5))
     Bad
 
 -- "`tick K` (K 1 to 1,000,000)"
 abbrev pub tick_of : List (List ℕ) → Command
-tick_of words = cond (leb (length words) 1 && leb 1 (number_in words 0) && leb (number_in words 0) 1000000) (Tick (number_in words 0)) Bad
+tick_of words = with_number (number_in words 0) (λ k. cond (leb (length words) 1 && leb 1 k && leb k 1000000) (Tick k) Bad)
 
 -- "`peek AT LEN`", "AT plus the number of octets must be at most 17,408"
 abbrev pub peek_of : List (List ℕ) → Command
 peek_of words =
-    cond (leb (length words) 2 && leb (number_in words 0 + number_in words 1) 17408)
-    (Peek (record { at = number_in words 0; length = number_in words 1 }))
-    Bad
+    with_number (number_in words 0) (λ at. with_number (number_in words 1) (λ len.
+    cond (leb (length words) 2 && leb (at + len) 17408) (Peek (record { at = at; length = len })) Bad))
 
 -- "`poke AT HEX`", "one pair or more"
 abbrev pub poke_by : ℕ → ℕ → ℕ → Command
@@ -78,7 +88,7 @@ poke_by at digits count = cond (leb (at + count) 17408 && ltb 0 count) (Poke (re
 abbrev pub poke_of : List (List ℕ) → Command
 poke_of words =
     cond (leb (length words) 2)
-    (poke_by (number_in words 0) (6 + length (get_or words 0 [])) (length (octets_of (get_or words 1 []))))
+    (with_number (number_in words 0) (λ at. poke_by at (6 + length (get_or words 0 [])) (length (octets_of (get_or words 1 [])))))
     Bad
 
 -- Of the octets that a `hear` line spells, 1121 are kept: one more than the longest frame has, so that the station refuses them as it

@@ -3,7 +3,7 @@
 
 ghost use Rattle.std.specs.Prelude.{◌≡◌};
 ghost use Rattle.replay_words.specs.Words.{words_behind};
-ghost use Rattle.replay_commands.specs.Commands.{start_by, start_of, tick_of, poke_by, poke_of, peek_of, hear_of, numbered, short_of, command_by, command_in};
+ghost use Rattle.replay_commands.specs.Commands.{start_by, start_with, start_of, tick_of, poke_by, poke_of, peek_of, hear_of, numbered, short_of, command_by, command_in};
 
 use area::{Areas, Part};
 use comparing::same;
@@ -84,6 +84,25 @@ fn start_by(
     }
 }
 
+// By the six words of the command, each a number or none.
+fn start_with(
+    number: Option<u32>,
+    address1: Option<u32>,
+    size1: Option<u32>,
+    address2: Option<u32>,
+    size2: Option<u32>,
+    watch: Option<u32>,
+) -> Command
+    ensures { result ≡ start_with number address1 size1 address2 size2 watch }
+{
+    match (number, address1, size1, address2, size2, watch) {
+        (Some(number), Some(address1), Some(size1), Some(address2), Some(size2), Some(watch)) => {
+            start_by(number, address1, size1, address2, size2, watch)
+        }
+        _ => Command::Bad,
+    }
+}
+
 fn start_of(line: &[u8]) -> Command
     ensures { result ≡ start_of (words_behind line.now 5) }
 {
@@ -94,7 +113,7 @@ fn start_of(line: &[u8]) -> Command
     let size2 = number_at(line, address2.end);
     let watch = number_at(line, size2.end);
     if line.len() <= watch.end {
-        start_by(
+        start_with(
             number.value,
             address1.value,
             size1.value,
@@ -111,8 +130,11 @@ fn tick_of(line: &[u8]) -> Command
     ensures { result ≡ tick_of (words_behind line.now 4) }
 {
     let ticks = number_at(line, 4);
-    if (line.len() <= ticks.end) & (1 <= ticks.value) & (ticks.value <= 1000000) {
-        Command::Tick(ticks.value)
+    let Some(count) = ticks.value else {
+        return Command::Bad;
+    };
+    if (line.len() <= ticks.end) & (1 <= count) & (count <= 1000000) {
+        Command::Tick(count)
     } else {
         Command::Bad
     }
@@ -123,8 +145,11 @@ fn peek_of(line: &[u8]) -> Command
 {
     let place = number_at(line, 4);
     let size = number_at(line, place.end);
-    let at = place.value as usize;
-    let length = size.value as usize;
+    let (Some(at), Some(length)) = (place.value, size.value) else {
+        return Command::Bad;
+    };
+    let at = at as usize;
+    let length = length as usize;
     if (line.len() <= size.end) & (at + length <= area::MEMORY_OCTETS) {
         Command::Peek(Peek { at, length })
     } else {
@@ -160,7 +185,10 @@ fn poke_of(line: &[u8]) -> Command
     if word_end(line, digits) < line.len() {
         return Command::Bad;
     }
-    poke_by(place.value as usize, digits, size_of(&line[digits..]))
+    let Some(at) = place.value else {
+        return Command::Bad;
+    };
+    poke_by(at as usize, digits, size_of(&line[digits..]))
 }
 
 // Of the octets that the digits spell, 1121 are kept: one more than the longest frame has, so that the station refuses them as it refuses them all.
@@ -170,15 +198,9 @@ fn hear_of(size: usize) -> Command
     if size == 0 {
         return Command::Bad;
     }
-    if size <= 1121 {
-        return Command::Hear(Octets {
-            digits: 5,
-            count: size,
-        });
-    }
     Command::Hear(Octets {
         digits: 5,
-        count: 1121,
+        count: size.min(1121),
     })
 }
 
@@ -242,6 +264,7 @@ fn command_by(line: Line, stored: &[u8]) -> Command
 pub fn command_of(line: Line, buffer: &[u8]) -> Command
     ensures { result ≡ command_in line buffer.now }
 {
+    // Not by `buffer.get(..count).unwrap_or(buffer)`: tried, and the search left `returns` open.
     let count = line.count;
     if count < buffer.len() {
         command_by(line, &buffer[0..count])

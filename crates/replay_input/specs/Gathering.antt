@@ -1,10 +1,11 @@
 -- A line that comes octet by octet, into a buffer of limited length.
 use Rattle.std.specs.Prelude.{◌&&◌, ◌+◌, ◌-◌, ◌/◌}
-use Rattle.laws.specs.Usual.{Bool, true, false, cond, not, List, ℕ, set, leb, ltb}
+use Rattle.laws.specs.Usual.{true, false, cond, not, List, ℕ, set, leb, ltb}
 use Rattle.text_hexadecimal.specs.Octets.{is_hexadecimal}
 use Rattle.text_scanning.specs.Scanning.{push_all, store_all, scan_of, buffer_of}
 use Rattle.replay_input.specs.declared.Line.{Line}
-use Rattle.replay_input.specs.declared.Scanned.{Scanned}
+use Rattle.text_scanning.specs.declared.Scanned.{Scanned}
+use Rattle.text_scanning.specs.Made.{made}
 
 -- as many octets as the longest command that is not a `hear` has, a poke of the whole memory: `poke 0 ` and 34,816 digits
 abbrev pub longest : ℕ
@@ -27,10 +28,7 @@ pushed line octet =
 
 -- the octets of a text from place `at` on, up to its next line feed or its end: what has come then, the place behind, and whether the line
 -- has ended
-abbrev pub made : Line → ℕ → Bool → Scanned
-made line next ended = record { line = line; next = next; ended = ended }
-
-abbrev pub scanned : Line → ℕ → List ℕ → Scanned
+abbrev pub scanned : Line → ℕ → List ℕ → Scanned Line
 scanned line at text = scan_of pushed made line at text
 
 -- and the buffer then: each octet is stored behind those before it, where there is room

@@ -3,23 +3,19 @@
 #![tactic(auto)]
 
 ghost use Rattle.std.specs.Prelude.{◌≡◌};
-ghost use Rattle.replay_input.specs.Gathering.{fresh, size_in};
+ghost use Rattle.laws.specs.Usual.{set};
+ghost use Rattle.replay_input.specs.Gathering.{fresh, count_after, pushed, stored, size_in};
+
+use text_hexadecimal::is_hexadecimal;
+use text_scanning::Gathers;
 
 // A line so far: the number of its octets, at most 34,824, of which the first 34,823 are stored at the front of the buffer; whether all
-// octets from place 5 on are hexadecimal digits, and whether the number of these is odd.
+// octets from place 5 on are hexadecimal digits, and whether the number of these is odd. The two flags go on independently of each other.
 #[derive(Clone, Copy)]
 pub struct Line {
     pub count: usize,
     pub digits: bool,
     pub odd: bool,
-}
-
-// What a part of a text did to a line: what has come of the line, the place in the text behind it, and whether the line has ended.
-#[derive(Clone, Copy)]
-pub struct Scanned {
-    pub line: Line,
-    pub next: usize,
-    pub ended: bool,
 }
 
 pub fn begin() -> Line
@@ -32,15 +28,49 @@ pub fn begin() -> Line
     }
 }
 
+fn count_after(count: usize) -> usize
+    ensures { result ≡ count_after count }
+{
+    if count <= 34823 { count + 1 } else { count }
+}
+
+// Stores an octet, where the buffer has room for it. decode_line's also counts what it stores, and one function for both would be no plainer.
+fn store(count: usize, octet: u8, buffer: &mut [u8])
+    ensures { buffer.new ≡ set buffer.old count octet }
+{
+    if count < buffer.len() {
+        buffer[count] = octet;
+    }
+}
+
+impl Gathers for Line {
+    ghost pushed = { λ room. pushed };
+
+    ghost stored = { stored };
+
+    fn push(self, octet: u8, buffer: &mut [u8]) -> Line {
+        store(self.count, octet, buffer);
+        if self.count < 5 {
+            return Line {
+                count: self.count + 1,
+                ..self
+            };
+        }
+        Line {
+            count: count_after(self.count),
+            digits: self.digits & is_hexadecimal(octet),
+            odd: !self.odd,
+        }
+    }
+}
+
 // How many octets the digits from place 5 on spell.
 pub fn size_in(line: Line) -> usize
     ensures { result ≡ size_in line }
 {
     if line.digits & !line.odd {
-        if line.count < 5 {
-            return 0;
-        }
-        return (line.count - 5) / 2;
+        line.count.saturating_sub(5) / 2
+    } else {
+        0
     }
-    0
 }

@@ -10,11 +10,13 @@ use Rattle.text_feeding.proofs.Lines.{Meant, Came, text_came}
 use Rattle.replay_input.specs.Gathering.{longest, fresh, pushed, pushed_all, buffer_all}
 use Rattle.replay_input.specs.declared.Line.{Line}
 use Rattle.replay_performing.proofs.Lines.{line_performed}
-use Rattle.replay_performing.specs.Replaying.{Kept, Performed, performed}
+use Rattle.replay_performing.specs.Replaying.{Performed, performed}
+use Rattle.replay_performing.specs.declared.Kept.{Kept}
 use Rattle.replay_reply_words.specs.Answers.{bad_text}
 use Rattle.text_hexadecimal.specs.Octets.{is_hexadecimal}
 use Rattle.replay_end.specs.End.{answer_to_rest}
-use Rattle.replay_lines.specs.Replay.{Carried, carried, line_done, replay, after, start, output_of}
+use Rattle.replay_lines.specs.declared.Carried.{Carried}
+use Rattle.replay_lines.specs.Replay.{carried, line_done, replay, after, start, output_of}
 use Rattle.replay_lines.specs.Scanned.{pushed_both}
 use Rattle.text_feeding.specs.Feeding as feeding
 

@@ -6,16 +6,13 @@ use Rattle.text_feeding.specs.Feeding.{Program, fed_all, answered_all}
 use Rattle.replay_input.specs.Gathering.{fresh, pushed}
 use Rattle.replay_input.specs.declared.Line.{Line}
 use Rattle.replay_end.specs.End.{answer_to_rest}
-use Rattle.replay_performing.specs.Replaying.{Kept, keeping, Performed, performed}
+use Rattle.replay_lines.specs.declared.Carried.{Carried}
+use Rattle.replay_performing.specs.Replaying.{keeping, Performed, performed}
+use Rattle.replay_performing.specs.declared.Kept.{Kept}
 use Rattle.station.specs.Rules.State.{never}
 use Rattle.station.specs.declared.Station.{Station}
 
--- what is carried from octet to octet: what is kept between commands, the line so far, and what is stored of it
-pub record Carried : Type 0 where
-  pub kept : Kept
-  pub line : Line
-  pub stored : List ℕ
-
+-- what is carried from octet to octet, from its parts: what is kept between commands, the line so far, and what is stored of it
 abbrev pub carried : Kept → Line → List ℕ → Carried
 carried kept line stored = record { kept = kept; line = line; stored = stored }
 

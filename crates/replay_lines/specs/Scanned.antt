@@ -4,11 +4,12 @@ use Rattle.laws.specs.Usual.{refl, List, [], ℕ, drop, set}
 use Rattle.text_feeding.proofs.Cut.{cut}
 use Rattle.text_feeding.specs.Cut.{Cut, feed, clean}
 use Rattle.text_feeding.proofs.Scan.{scan_feed, scan_clean, Scan}
-use Rattle.replay_input.specs.Gathering.{pushed, made, scanned, buffer_scanned, pushed_all, buffer_all}
+use Rattle.replay_input.specs.Gathering.{pushed, scanned, buffer_scanned, pushed_all, buffer_all}
 use Rattle.text_scanning.proofs.Scans.{scan_part, buffer_part, scan_line, buffer_line}
 use Rattle.replay_input.specs.declared.Line.{Line}
-use Rattle.replay_input.specs.declared.Scanned.{Scanned}
-use Rattle.replay_performing.specs.Replaying.{Kept}
+use Rattle.text_scanning.specs.declared.Scanned.{Scanned}
+use Rattle.text_scanning.specs.Made.{made}
+use Rattle.replay_performing.specs.declared.Kept.{Kept}
 use Rattle.replay_lines.specs.Replay.{carried, replay}
 use Rattle.text_feeding.specs.Feeding as feeding
 use Rattle.replay_input.specs.Gathering as input
@@ -20,7 +21,7 @@ pushed_both [] kept line stored = refl
 pushed_both (octet ∷ octets) kept line stored = pushed_both octets kept (pushed line octet) (set stored line.count octet)
 
 module _ (kept : Kept) (line : Line) (stored part : List ℕ) (at : ℕ) where
-  abbrev Scans : Scanned → List ℕ → Type 0
+  abbrev Scans : Scanned Line → List ℕ → Type 0
   Scans result after = Scan replay (carried kept line stored) part at (carried kept result.line after) result.next result.ended
 
   pub scan_taken : Scans (scanned line at (drop at part)) (buffer_scanned line stored (drop at part))

@@ -1,5 +1,5 @@
 -- Of octets that are longer than any frame, the first 1121 are heard as all of them are. Assumes nothing.
-use Rattle.std.specs.Prelude.{◌≡◌, ◌<◌, ◌≤◌}
+use Rattle.std.specs.Prelude.{Err, ◌≡◌, ◌<◌, ◌≤◌}
 use Rattle.laws.specs.Usual.{ap, List, ℕ, arith, length, take}
 use Rattle.std.proofs.Math.Decide.{dec_le}
 use Rattle.std.proofs.Common.{length-take-le, take_all, le-leb}
@@ -7,11 +7,10 @@ use Rattle.std.proofs.lemmas.Bool.{lt-leb}
 use Rattle.frame.specs.declared.Refusal.TheVariants.{Cut}
 use Rattle.frame_reading.specs.Reading.{read_header_of}
 use Rattle.station.specs.Rules.Hearing.{hear_of}
-use Rattle.frame_reading.specs.declared.Read.TheVariants.{Refused}
 use Rattle.station.specs.declared.Station.{Station}
 
 -- more than 1120 octets are refused by number 1
-cut_off : (octets : List ℕ) → 1120 < length octets → read_header_of octets ≡ Refused Cut
+cut_off : (octets : List ℕ) → 1120 < length octets → read_header_of octets ≡ Err Cut
 cut_off octets h = simp (le-leb 64 (length octets) (omega arith), lt-leb (length octets) 1120 h)
 
 pub hear_cut : (station : Station) (octets memory assembly : List ℕ) → hear_of station (take 1121 octets) memory assembly ≡ hear_of station octets memory assembly

@@ -1,10 +1,10 @@
 -- A line that came octet by octet, into a buffer of 34,823 octets, does what the whole line says, whatever its length. Assumes nothing.
-use Rattle.std.specs.Prelude.{◌≡◌, ◌&&◌, ◌+◌, ◌*◌, ◌<◌, ◌≤◌}
+use Rattle.std.specs.Prelude.{Option, Some, None, ◌≡◌, ◌&&◌, ◌+◌, ◌*◌, ◌<◌, ◌≤◌}
 use Rattle.laws.specs.Usual.{refl, sym, ap, ◌∙◌, Bool, true, false, cond, List, [], ℕ, arith, length, get_or, take, drop, leb, ltb}
 use Rattle.std.proofs.Math.Decide.{dec_le, dec_lt}
 use Rattle.std.proofs.Common.{length-drop, take_all, leb-true, le-leb}
 use Rattle.std.proofs.lemmas.Bool.{lt-leb}
-use Rattle.replay_commands.specs.Commands.{stop, ask, panel, state, hear, hear_space, start_space, tick_space, poke_space, peek_space, start_by, start_of, tick_of, peek_of, poke_of, kept as kept_of, hear_of as hear_command, short_of, command_of, command_in}
+use Rattle.replay_commands.specs.Commands.{stop, ask, panel, state, hear, hear_space, start_space, tick_space, poke_space, peek_space, with_number, start_by, start_with, start_of, tick_of, peek_of, poke_by, poke_of, kept as kept_of, hear_of as hear_command, short_of, command_of, command_in}
 use Rattle.replay_commands.proofs.Kept.{part_stored, heard_kept}
 use Rattle.text_hexadecimal.specs.OctetLaws.{octets_most, octets_first}
 use Rattle.text_hexadecimal.specs.Octets.{octets_of}
@@ -20,7 +20,8 @@ use Rattle.replay_commands.specs.declared.Command.TheVariants.{Start, Stop, Tick
 use Rattle.replay_input.specs.Gathering.{longest, fresh, pushed_all, buffer_all}
 use Rattle.station.specs.Rules.Hearing.{hear_of}
 use Rattle.replay_performing.proofs.Cut.{hear_cut}
-use Rattle.replay_performing.specs.Replaying.{Kept, heard, poked, digits_in, performed}
+use Rattle.replay_performing.specs.declared.Kept.{Kept}
+use Rattle.replay_performing.specs.Replaying.{heard, poked, digits_in, performed}
 
 -- the digits of a `hear` line spell the first 1121 of its octets
 first_octets : (line : List ℕ) → octets_of (digits_in line 5 (kept_of (length (octets_of (drop 5 line))))) ≡ take 1121 (octets_of (drop 5 line))
@@ -96,6 +97,11 @@ module _ (line buffer : List ℕ) (kept : Kept) (full : length buffer ≡ longes
   bare : (command : Command) → performed command after kept ≡ performed command line kept → Same command
   bare command e = record { same_done = e }
 
+  -- a command with a number, whatever the number
+  numbered : (number : Option ℕ) (says : ℕ → Command) → ((n : ℕ) → Same (says n)) → Same (with_number number says)
+  numbered (Some n) says p = p n
+  numbered None says p = bare Bad refl
+
   same_hear : Same (hear_command (length (octets_of (drop 5 line))))
   same_hear =
       either (ltb 0 (length (octets_of (drop 5 line))))
@@ -116,15 +122,20 @@ module _ (line buffer : List ℕ) (kept : Kept) (full : length buffer ≡ longes
   same_poke : length line ≤ 34823 → Same (poke_of (words_behind line 4))
   same_poke short =
       either (leb (length (words_behind line 4)) 2)
-      (either (leb (number_in (words_behind line 4) 0 + count_in line) 17408 && ltb 0 (count_in line))
-      (record { same_done = ap (λ (digits : List ℕ). poked kept (number_in (words_behind line 4) 0) (octets_of digits)) (poke_digits short) })
-      (bare Bad refl))
+      (numbered (number_in (words_behind line 4) 0) (λ at. poke_by at (digits_at line) (count_in line)) by)
       (bare Bad refl)
+    where
+      by : (at : ℕ) → Same (poke_by at (digits_at line) (count_in line))
+      by at =
+          either (leb (at + count_in line) 17408 && ltb 0 (count_in line))
+          (record { same_done = ap (λ (digits : List ℕ). poked kept at (octets_of digits)) (poke_digits short) })
+          (bare Bad refl)
 
   same_start : (words : List (List ℕ)) → Same (start_of words)
   same_start words =
       either (leb (length words) 6)
-      (by (number_in words 0) (number_in words 1) (number_in words 2) (number_in words 3) (number_in words 4) (number_in words 5))
+      (numbered (number_in words 0) _ (λ n. numbered (number_in words 1) _ (λ ad1. numbered (number_in words 2) _ (λ sz1.
+      numbered (number_in words 3) _ (λ ad2. numbered (number_in words 4) _ (λ sz2. numbered (number_in words 5) _ (λ w. by n ad1 sz1 ad2 sz2 w)))))))
       (bare Bad refl)
     where
       by : (n ad1 sz1 ad2 sz2 w : ℕ) → Same (start_by n ad1 sz1 ad2 sz2 w)
@@ -133,10 +144,12 @@ module _ (line buffer : List ℕ) (kept : Kept) (full : length buffer ≡ longes
 
   same_tick : (words : List (List ℕ)) → Same (tick_of words)
   same_tick words =
-      either (leb (length words) 1 && leb 1 (number_in words 0) && leb (number_in words 0) 1000000) (bare (Tick (number_in words 0)) refl) (bare Bad refl)
+      numbered (number_in words 0) (λ k. cond (leb (length words) 1 && leb 1 k && leb k 1000000) (Tick k) Bad)
+      (λ k. either (leb (length words) 1 && leb 1 k && leb k 1000000) (bare (Tick k) refl) (bare Bad refl))
 
   same_peek : (words : List (List ℕ)) → Same (peek_of words)
-  same_peek words = either (leb (length words) 2 && leb (number_in words 0 + number_in words 1) 17408) (bare (Peek _) refl) (bare Bad refl)
+  same_peek words =
+      numbered (number_in words 0) _ (λ at. numbered (number_in words 1) _ (λ len. either (leb (length words) 2 && leb (at + len) 17408) (bare (Peek _) refl) (bare Bad refl)))
 
   same_short : length line ≤ 34823 → Same (short_of line)
   same_short short =

@@ -5,6 +5,7 @@ use Rattle.text_hexadecimal.specs.Octets.{octets_of}
 use Rattle.replay_commands.specs.declared.Command.{Command}
 use Rattle.replay_commands.specs.declared.Command.TheVariants.{Start, Stop, Tick, Hear, Ask, Panel, Poke, Peek, State, Bad}
 use Rattle.copying.specs.Pasted.{pasted}
+use Rattle.replay_performing.specs.declared.Kept.{Kept}
 use Rattle.ticking_quiet.specs.Many.{ticks_of}
 use Rattle.replay_replies.specs.Replies.{switched_text, heard_text}
 use Rattle.replay_reply_asked.specs.Asked.{asked_text}
@@ -18,14 +19,7 @@ use Rattle.station.specs.Rules.Starting.{Switching, start_of, stop_of}
 use Rattle.station.specs.Rules.Ticking.{Ticking}
 use Rattle.station.specs.declared.Station.{Station}
 
--- what is kept between commands: the station and its buffers
-pub record Kept : Type 0 where
-  pub station : Station
-  pub memory : List ℕ
-  pub assembly : List ℕ
-  pub turn : List ℕ
-  pub frame : List ℕ
-
+-- what is kept between commands, from its parts: the station and its buffers
 abbrev pub keeping : Station → List ℕ → List ℕ → List ℕ → List ℕ → Kept
 keeping station memory assembly turn frame = record {
   station = station;

@@ -7,19 +7,20 @@ ghost use Rattle.laws.specs.Usual.{length};
 ghost use Rattle.copying.specs.Pasted.{pasted};
 ghost use Rattle.replay_replies.specs.Replies.{switched_text, heard_text};
 
+use frame::Refusal;
 use replay_reply_outcome::put_token;
 use replay_reply_parts::put_line;
 use replay_reply_words::put_refused;
-use station::{Heard, Switched};
+use station::Heard;
 
-pub fn put_switched(switched: Switched, output: &mut [u8]) -> usize
+pub fn put_switched(switched: Result<(), Refusal>, output: &mut [u8]) -> usize
     requires { 40 ≤ length output.old }
     ensures value { result ≡ length (switched_text switched) }
     ensures output_after { output.new ≡ pasted output.old 0 (switched_text switched) }
 {
     match switched {
-        Switched::Done => put_line(b"done", output),
-        Switched::Refused(refusal) => put_refused(refusal, output),
+        Ok(()) => put_line(b"done", output),
+        Err(refusal) => put_refused(refusal, output),
     }
 }
 

@@ -8,10 +8,10 @@ ghost use Rattle.replay_reply_parts.specs.Hex.{hex_of};
 ghost use Rattle.replay_reply_parts.specs.Lines.{ended, spaced};
 ghost use Rattle.replay_reply_asked.specs.Asked.{frame_word, asked_text};
 
+use frame::Refusal;
 use replay_reply_octets::{part_of, put_hex};
 use replay_reply_parts::{put_mark, put_word};
 use replay_reply_words::put_refused;
-use station::Asked;
 
 fn put_frame(frame: &[u8], output: &mut [u8]) -> usize
     requires { 2 * length frame.now + 7 ≤ length output.old }
@@ -23,13 +23,13 @@ fn put_frame(frame: &[u8], output: &mut [u8]) -> usize
     put_mark(b'\n', output, end)
 }
 
-pub fn put_asked(asked: Asked, frame: &[u8], output: &mut [u8]) -> usize
+pub fn put_asked(asked: Result<usize, Refusal>, frame: &[u8], output: &mut [u8]) -> usize
     requires { 2 * length frame.now + 40 ≤ length output.old }
     ensures value { result ≡ length (asked_text asked frame.now) }
     ensures output_after { output.new ≡ pasted output.old 0 (asked_text asked frame.now) }
 {
     match asked {
-        Asked::Octets(count) => put_frame(part_of(frame, 0, count), output),
-        Asked::Refused(refusal) => put_refused(refusal, output),
+        Ok(count) => put_frame(part_of(frame, 0, count), output),
+        Err(refusal) => put_refused(refusal, output),
     }
 }

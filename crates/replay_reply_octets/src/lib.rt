@@ -44,10 +44,8 @@ pub fn put_hex(octets: &[u8], output: &mut [u8], at: usize) -> usize
     ensures output_after { output.new ≡ pasted output.old at (hex_of octets.now) }
 {
     let mut end = at;
-    let mut i = 0;
-    while i < octets.len() {
-        end = put_octet(octets[i], output, end);
-        i += 1;
+    for octet in octets {
+        end = put_octet(*octet, output, end);
     }
     end
 }

@@ -27,12 +27,10 @@ fn put_phase(phase: Phase, output: &mut [u8], at: usize) -> usize
 fn view_shown(phase: Phase, view: u8) -> u8
     ensures { result ≡ view_shown phase view }
 {
-    match phase {
-        Phase::Off => 0,
-        Phase::Listening => 0,
-        Phase::Startup => 0,
-        Phase::Joining => 0,
-        Phase::Participating => view,
+    if phase == Phase::Participating {
+        view
+    } else {
+        0
     }
 }
 
@@ -93,13 +91,9 @@ fn put_entries(members: Members, output: &mut [u8], at: usize) -> usize
     ensures value { result ≡ at + length (entries_from 0 members.entries) }
     ensures output_after { output.new ≡ pasted output.old at (entries_from 0 members.entries) }
 {
-    let entries = members.entries;
     let mut end = at;
-    let mut number: usize = 0;
-    while number < 256 {
-        let entry = entries[number];
-        end = put_entry(number as u32, entry, output, end);
-        number += 1;
+    for (number, entry) in members.entries.iter().enumerate() {
+        end = put_entry(number as u32, *entry, output, end);
     }
     end
 }

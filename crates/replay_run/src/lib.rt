@@ -5,177 +5,102 @@
 ghost use Rattle.std.specs.Prelude.{◌≡◌, ◌<◌};
 ghost use Rattle.laws.specs.Usual.{List, ℕ, length, take};
 ghost use Rattle.text_feeding.specs.Feeding.{between, Onward, Taken, Arrived};
-ghost use Rattle.replay_input.specs.Gathering.{fresh};
 ghost use Rattle.replay_end.specs.End.{answer_to_rest};
-ghost use Rattle.replay_lines.specs.Replay.{held, after, Answering, start};
-ghost use Rattle.station.specs.Rules.State.{never};
+ghost use Rattle.replay_lines.specs.Replay.{after, Answering, start};
 
 use replay_input::Line;
-use replay_lines::Going;
+use replay_lines::Carried;
 use station::Station;
 use text_feeding::Streams;
 
+// The place in the part of the input that is being read, and whether to go on. The place holds either way, so it is no Option.
+#[derive(Clone, Copy)]
+struct Going {
+    at: usize,
+    on: bool,
+}
+
 // Hands an answer to standard output. No contract can say what is written; that it is the answer is asked of the caller.
-fn write_answer(streams: &mut Streams, going: Going, part: &[u8], to: usize, text: &[u8]) -> bool
-    requires { Answering going.station going.line (between going.at to part.now) text.now }
+fn write_answer(
+    streams: &mut Streams,
+    station: Station,
+    line: Line,
+    part: &[u8],
+    from: usize,
+    to: usize,
+    text: &[u8],
+) -> bool
+    requires { Answering station line (between from to part.now) text.now }
 {
     streams.write(text)
 }
 
 // Takes the part on by one step of `take_next`, and writes the answer.
-fn replay_next(
-    streams: &mut Streams,
-    going: Going,
-    part: &[u8],
-    stored: &mut [u8; 34823],
-    memory: &mut [u8; area::MEMORY_OCTETS],
-    assembly: &mut [u8; area::MEMORY_OCTETS],
-    turn: &mut [u8; area::MEMORY_OCTETS],
-    frame: &mut [u8; frame::OUTPUT_OCTETS],
-) -> Going
-    requires { going.at < length part.now }
-    ensures frame_after { held result.station result.line stored.new memory.new assembly.new turn.new frame.new ≡ after (held going.station going.line stored.old memory.old assembly.old turn.old frame.old) (between going.at result.at part.now) }
-    ensures onward { Onward part.now going.at result.at result.on }
+fn replay_next(streams: &mut Streams, carried: &mut Carried, part: &[u8], at: usize) -> Going
+    requires { at < length part.now }
+    ensures carried_after { carried.new ≡ after carried.old (between at result.at part.now) }
+    ensures onward { Onward part.now at result.at result.on }
 {
     let mut answer = [0u8; 40000];
-    let next = replay_lines::take_next(
-        going,
-        part,
-        stored,
-        memory,
-        assembly,
-        turn,
-        frame,
-        &mut answer,
-    );
-    let station = next.station;
-    let line = next.line;
+    let station = carried.kept.station;
+    let line = carried.line;
+    let next = carried.take_next(part, at, &mut answer);
     let to = next.at;
-    let length = next.length;
-    if next.ended {
-        let on = write_answer(streams, going, part, to, &answer[0..length]);
-        return Going {
-            station,
-            line,
-            at: to,
-            on,
-        };
-    }
-    Going {
-        station,
-        line,
-        at: to,
-        on: true,
+    match next.length {
+        Some(length) => {
+            let on = write_answer(streams, station, line, part, at, to, &answer[0..length]);
+            Going { at: to, on }
+        }
+        None => Going { at: to, on: true },
     }
 }
 
 // Takes a part to its end, or up to the first line whose answer cannot be written.
-fn replay_part(
-    streams: &mut Streams,
-    station: Station,
-    line: Line,
-    part: &[u8],
-    stored: &mut [u8; 34823],
-    memory: &mut [u8; area::MEMORY_OCTETS],
-    assembly: &mut [u8; area::MEMORY_OCTETS],
-    turn: &mut [u8; area::MEMORY_OCTETS],
-    frame: &mut [u8; frame::OUTPUT_OCTETS],
-) -> Going
-    ensures frame_after { held result.station result.line stored.new memory.new assembly.new turn.new frame.new ≡ after (held station line stored.old memory.old assembly.old turn.old frame.old) (take result.at part.now) }
+fn replay_part(streams: &mut Streams, carried: &mut Carried, part: &[u8]) -> Going
+    ensures carried_after { carried.new ≡ after carried.old (take result.at part.now) }
     ensures taken { Taken part.now result.at result.on }
 {
-    let mut going = Going {
-        station,
-        line,
-        at: 0,
-        on: true,
-    };
+    let mut going = Going { at: 0, on: true };
+    // No `for`: how far a step goes the step itself tells.
     while going.on && going.at < part.len() {
-        going = replay_next(streams, going, part, stored, memory, assembly, turn, frame);
+        going = replay_next(streams, carried, part, going.at);
     }
     going
 }
 
 // Reads once, and answers each line that ends in what came.
-fn replay_some(
-    streams: &mut Streams,
-    station: Station,
-    line: Line,
-    part: &mut [u8],
-    stored: &mut [u8; 34823],
-    memory: &mut [u8; area::MEMORY_OCTETS],
-    assembly: &mut [u8; area::MEMORY_OCTETS],
-    turn: &mut [u8; area::MEMORY_OCTETS],
-    frame: &mut [u8; frame::OUTPUT_OCTETS],
-) -> Going
-    ensures frame_after { held result.station result.line stored.new memory.new assembly.new turn.new frame.new ≡ after (held station line stored.old memory.old assembly.old turn.old frame.old) (take result.at part.new) }
+fn replay_some(streams: &mut Streams, carried: &mut Carried, part: &mut [u8]) -> Going
+    ensures carried_after { carried.new ≡ after carried.old (take result.at part.new) }
     ensures arrived { Arrived part.new result.at result.on }
 {
     let read = streams.read_some(part);
-    let mut going = replay_part(
-        streams,
-        station,
-        line,
-        &part[0..read],
-        stored,
-        memory,
-        assembly,
-        turn,
-        frame,
-    );
-    going.on = going.on & (0 < read);
-    going
+    let going = replay_part(streams, carried, &part[0..read]);
+    Going {
+        on: going.on & (0 < read),
+        ..going
+    }
 }
 
-// A proved loop has to end, and nothing says that the input does. So the loop counts its turns down, from a number that no run uses up.
-fn replay_all(
-    streams: &mut Streams,
-    part: &mut [u8],
-    stored: &mut [u8; 34823],
-    memory: &mut [u8; area::MEMORY_OCTETS],
-    assembly: &mut [u8; area::MEMORY_OCTETS],
-    turn: &mut [u8; area::MEMORY_OCTETS],
-    frame: &mut [u8; frame::OUTPUT_OCTETS],
-) -> Going
-    ensures { (input : List ℕ) × (held result.station result.line stored.new memory.new assembly.new turn.new frame.new ≡ after (held never fresh stored.old memory.old assembly.old turn.old frame.old) input) }
+// A proved loop has to end, and nothing says that the input does. So the loop counts its turns, up to a number that no run uses up.
+fn replay_all(streams: &mut Streams, carried: &mut Carried, part: &mut [u8])
+    ensures { (input : List ℕ) × (carried.new ≡ after carried.old input) }
 {
-    let mut going = Going {
-        station: phases::never(),
-        line: replay_input::begin(),
-        at: 0,
-        on: true,
-    };
-    let mut turns = u64::MAX;
-    while going.on && 0 < turns {
-        let station = going.station;
-        let line = going.line;
-        going = replay_some(
-            streams, station, line, part, stored, memory, assembly, turn, frame,
-        );
-        turns -= 1;
+    for _ in 0..u64::MAX {
+        let going = replay_some(streams, carried, part);
+        if !going.on {
+            return;
+        }
     }
-    going
 }
 
 // What the whole input leaves, with a station that was never started and buffers of zeros.
-fn replay_input(streams: &mut Streams) -> Going
-    ensures { (input : List ℕ) × ((result.station ≡ (after start input).kept.station) × (result.line ≡ (after start input).line)) }
+fn replay_input(streams: &mut Streams) -> Carried
+    ensures { (input : List ℕ) × (result ≡ after start input) }
 {
     let mut part = [0u8; 65536];
-    let mut stored = [0u8; 34823];
-    let mut memory = [0u8; area::MEMORY_OCTETS];
-    let mut assembly = [0u8; area::MEMORY_OCTETS];
-    let mut turn = [0u8; area::MEMORY_OCTETS];
-    let mut frame = [0u8; frame::OUTPUT_OCTETS];
-    replay_all(
-        streams,
-        &mut part,
-        &mut stored,
-        &mut memory,
-        &mut assembly,
-        &mut turn,
-        &mut frame,
-    )
+    let mut carried = Carried::new();
+    replay_all(streams, &mut carried, &mut part);
+    carried
 }
 
 // The same for a last line without its line feed.
@@ -186,8 +111,8 @@ fn write_rest(streams: &mut Streams, line: Line, text: &[u8])
 }
 
 pub fn run(streams: &mut Streams) {
-    let going = replay_input(streams);
-    let rest = going.line;
+    let carried = replay_input(streams);
+    let rest = carried.line;
     let mut text = [0u8; 40];
     let end = replay_end::put_rest(rest, &mut text);
     write_rest(streams, rest, &text[0..end]);

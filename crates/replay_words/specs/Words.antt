@@ -1,9 +1,9 @@
 -- The words of a line, and words as numbers. Words in quotes are those of the table of commands.
-use Rattle.std.specs.Prelude.{◌&&◌, ◌∷◌}
+use Rattle.std.specs.Prelude.{Option, ◌&&◌, ◌∷◌}
 use Rattle.laws.specs.Usual.{Bool, true, false, List, [], ℕ, get_or, eqb}
 use Rattle.text.specs.Lines.{space}
 use Rattle.text_reading.specs.Parts.{parts_behind, end_of}
-use Rattle.text_reading.specs.Values.{decimal_in, number_or}
+use Rattle.text_reading.specs.Values.{decimal_in}
 use Rattle.replay_words.specs.declared.Number.{Number}
 
 -- whether a line begins with a word
@@ -16,16 +16,12 @@ begins (letter ∷ word) (octet ∷ line) = eqb octet letter && begins word line
 abbrev pub words_behind : List ℕ → ℕ → List (List ℕ)
 words_behind line place = parts_behind space line place
 
--- what stands for a word that is no number, and for a number above 1,000,000: it is out of every range of the table
-abbrev pub none : ℕ
-none = 1000001
-
--- "decimal without leading zeros (0 itself is `0`)"
-abbrev pub decimal : List ℕ → ℕ
-decimal word = number_or none (decimal_in 1000000 word)
+-- "decimal without leading zeros (0 itself is `0`)"; a number above 1,000,000 is out of every range of the table, and is none
+abbrev pub decimal : List ℕ → Option ℕ
+decimal word = decimal_in 1000000 word
 
 -- the number that a word is, of some words counted from 0; a word that is not there is no number
-abbrev pub number_in : List (List ℕ) → ℕ → ℕ
+abbrev pub number_in : List (List ℕ) → ℕ → Option ℕ
 number_in words i = decimal (get_or words i [])
 
 -- the first word behind the space at a place, as a number, and the place where it ends

@@ -8,12 +8,12 @@ ghost use Rattle.text_reading.specs.Marks.{before};
 ghost use Rattle.replay_words.specs.Words.{begins, decimal, number_at};
 
 use text_places::place_from;
-use text_reading::{Value, decimal_in};
+use text_reading::decimal_in;
 
-// A word of a line as a number, and the place where it ends: its space, or the line's end.
+// A word of a line as a number, if it is one of at most 1,000,000, and the place where it ends: its space, or the line's end.
 #[derive(Clone, Copy)]
 pub struct Number {
-    pub value: u32,
+    pub value: Option<u32>,
     pub end: usize,
 }
 
@@ -21,17 +21,7 @@ pub struct Number {
 pub fn begins(line: &[u8], word: &[u8]) -> bool
     ensures { result ≡ begins word.now line.now }
 {
-    let mut i = 0;
-    while i < word.len() {
-        if line.len() <= i {
-            return false;
-        }
-        if line[i] != word[i] {
-            return false;
-        }
-        i += 1;
-    }
-    true
+    line.starts_with(word)
 }
 
 // The place of the first space from a place on, or behind the line's end.
@@ -41,14 +31,11 @@ pub fn word_end(line: &[u8], from: usize) -> usize
     place_from(line, b' ', from)
 }
 
-// The number that a word is, or 1,000,001 where it is none or is above 1,000,000.
-fn decimal(word: &[u8]) -> u32
+// The number that a word is, if it is one of at most 1,000,000.
+fn decimal(word: &[u8]) -> Option<u32>
     ensures { result ≡ decimal word.now }
 {
-    match decimal_in(word, 1000000) {
-        Value::Number(number) => number,
-        Value::Nothing => 1000001,
-    }
+    decimal_in(word, 1000000)
 }
 
 // The word behind the space at a place.
@@ -57,7 +44,7 @@ pub fn number_at(line: &[u8], place: usize) -> Number
 {
     if line.len() <= place {
         return Number {
-            value: 1000001,
+            value: None,
             end: place,
         };
     }

@@ -1,5 +1,5 @@
 -- `replay_commands::command_of` meets its contract.
-use Rattle.laws.specs.Usual.{sym, ap, ◌∙◌, ℕ, take, rules}
+use Rattle.laws.specs.Usual.{sym, ap, ◌∙◌, ℕ, take}
 use native.Mathlib.Nat.{sub-zero}
 use lib.Seq.{take_all}
 use Rattle.replay_commands.specs.Commands.{command_by}

@@ -1,5 +1,5 @@
 -- `replay_commands::numbered` meets its contract.
-use Rattle.laws.specs.Usual.{sym, ◌∙◌, rules}
+use Rattle.laws.specs.Usual.{sym, ◌∙◌}
 use Rattle.replay_commands.proofs.numbered.Goals as goal
 
 pub returns-then-begins : goal.returns-then-begins

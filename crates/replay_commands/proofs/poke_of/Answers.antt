@@ -1,12 +1,12 @@
 -- `replay_commands::poke_of` meets its contract.
-use Rattle.std.specs.Prelude.{◌≡◌, ◌&&◌, ◌+◌, ◌<◌, ◌≤◌}
-use Rattle.laws.specs.Usual.{refl, sym, ap, ap₂, ◌∙◌, Bool, true, false, cond, List, [], ℕ, arith, length, get_or, drop, leb, rules}
+use Rattle.std.specs.Prelude.{Option, Some, None, ◌≡◌, ◌&&◌, ◌+◌, ◌<◌, ◌≤◌}
+use Rattle.laws.specs.Usual.{refl, sym, ap, ap₂, ◌∙◌, Bool, true, false, cond, List, [], ℕ, arith, length, get_or, drop, leb}
 use native.Mathlib.Decide.{dec_lt}
 use lib.ListN.{length-drop, get_or-eq_default}
 use lib.Seq.{take_all}
 use borrow.Author.Tests.{le-leb, lt-leb, lt-ltb, leb-true}
 use Rattle.laws.specs.Lists.{to_end}
-use Rattle.replay_commands.specs.Commands.{poke_by, poke_of}
+use Rattle.replay_commands.specs.Commands.{with_number, poke_by, poke_of}
 use Rattle.text_hexadecimal.specs.Octets.{octets_of}
 use Rattle.text_reading.specs.Marks.{before}
 use Rattle.text_reading.proofs.PartLaws.{first_part, end_place, no_end, place_of, part_at, ended_at}
@@ -26,6 +26,10 @@ poke_none at digits = by (leb (at + 0) 17408)
     by true = refl
     by false = refl
 
+poke_nothing : (digits : ℕ) (at : Option ℕ) → with_number at (λ n. poke_by n digits 0) ≡ Bad
+poke_nothing digits (Some at) = poke_none at digits
+poke_nothing digits None = refl
+
 module _ (line : List ℕ) (number : Number) (e : number ≡ number_at line 4) where
   abbrev words : List (List ℕ)
   words = words_behind line 4
@@ -37,9 +41,9 @@ module _ (line : List ℕ) (number : Number) (e : number ≡ number_at line 4) w
   one_word h =
       let few : leb (length words) 1 ≡ true = sym (ap (leb (length line)) read.1 ∙ ended_at space line 4 1) ∙ le-leb _ _ h in
       let none : get_or words 1 [] ≡ [] = get_or-eq_default words [] {n = 1} (leb-true (length words) 1 few) in
-      ap₂ (λ (test : Bool) (word : List ℕ). cond test (poke_by (number_in words 0) (6 + length (get_or words 0 [])) (length (octets_of word))) Bad)
+      ap₂ (λ (test : Bool) (word : List ℕ). cond test (with_number (number_in words 0) (λ (at : ℕ). poke_by at (6 + length (get_or words 0 [])) (length (octets_of word)))) Bad)
       (le-leb (length words) 2 (omega (arith, leb-true (length words) 1 few))) none
-      ∙ poke_none (number_in words 0) (6 + length (get_or words 0 []))
+      ∙ poke_nothing (6 + length (get_or words 0 [])) (number_in words 0)
 
   module _ (h : number.end < length line) where
     abbrev rest : List ℕ
@@ -50,7 +54,7 @@ module _ (line : List ℕ) (number : Number) (e : number ≡ number_at line 4) w
 
     more_words : number.end + 1 + before space rest < length line → poke_of words ≡ Bad
     more_words more =
-        ap (λ (test : Bool). cond test (poke_by (number_in words 0) (6 + length (get_or words 0 [])) (length (octets_of (get_or words 1 [])))) Bad)
+        ap (λ (test : Bool). cond test (with_number (number_in words 0) (λ (at : ℕ). poke_by at (6 + length (get_or words 0 [])) (length (octets_of (get_or words 1 []))))) Bad)
         (sym (ap (leb (length line)) (sym second_end) ∙ ended_at space line 4 2) ∙ lt-leb _ _ more)
 
     digits_place : 6 + length (get_or words 0 []) ≡ number.end + 1
@@ -69,11 +73,11 @@ module _ (line : List ℕ) (number : Number) (e : number ≡ number_at line 4) w
         ∙ first_part space line number.end h
         ∙ take_all (before space rest) rest (omega (arith, length-drop (number.end + 1) line))
 
-    two_words : length line ≤ number.end + 1 + before space rest → poke_of words ≡ poke_by number.value (number.end + 1) (length (octets_of rest))
+    two_words : length line ≤ number.end + 1 + before space rest → poke_of words ≡ with_number number.value (λ at. poke_by at (number.end + 1) (length (octets_of rest)))
     two_words last =
-        ap₂ (λ (test : Bool) (word : List ℕ). cond test (poke_by (number_in words 0) (6 + length (get_or words 0 [])) (length (octets_of word))) Bad)
+        ap₂ (λ (test : Bool) (word : List ℕ). cond test (with_number (number_in words 0) (λ (at : ℕ). poke_by at (6 + length (get_or words 0 [])) (length (octets_of word)))) Bad)
         (sym (ap (leb (length line)) (sym second_end) ∙ ended_at space line 4 2) ∙ le-leb _ _ last) (second_word last)
-        ∙ ap₂ (λ (at digits : ℕ). poke_by at digits (length (octets_of rest))) (sym read.0) digits_place
+        ∙ ap₂ (λ (number : Option ℕ) (digits : ℕ). with_number number (λ (at : ℕ). poke_by at digits (length (octets_of rest)))) (sym read.0) digits_place
 
 pub returns-then-line-space : goal.returns-then-line-space
 returns-then-line-space c = sym (one_word c.args.line.now c.number_at-place.result c.number_at-place.ensures c.if-line-space.true)
@@ -90,5 +94,5 @@ returns c =
     let number = c.number_at-place in
     let digits = number.result.end + 1 in
     c.poke_by.ensures
-    ∙ ap (poke_by number.result.value digits) (c.size_of.ensures ∙ ap (λ (list : List ℕ). length (octets_of list)) (to_end line digits))
-    ∙ sym (two_words line number.result number.ensures c.if-line-space.false (rw c.word_end.ensures at c.if-word_end-line.false))
+    ∙ ap (poke_by c.in-Some.at digits) (c.size_of.ensures ∙ ap (λ (list : List ℕ). length (octets_of list)) (to_end line digits))
+    ∙ sym (rw c.in-Some.is at (two_words line number.result number.ensures c.if-line-space.false (rw c.word_end.ensures at c.if-word_end-line.false)))

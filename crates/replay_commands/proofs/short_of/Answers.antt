@@ -1,5 +1,5 @@
 -- `replay_commands::short_of` meets its contract.
-use Rattle.laws.specs.Usual.{sym, ◌∙◌, rules}
+use Rattle.laws.specs.Usual.{sym, ◌∙◌}
 use Rattle.replay_commands.proofs.short_of.Goals as goal
 
 pub returns-then-same : goal.returns-then-same

@@ -3,10 +3,10 @@ use Rattle.replay_replies.specs.Replies.{switched_text}
 use borrow.Author.Rules.{rules}
 use Rattle.replay_replies.proofs.put_switched.Goals as goal
 
-pub returns-in-Done : goal.returns-in-Done
+pub returns-in-Ok : goal.returns-in-Ok
 unfolding switched_text
-returns-in-Done c = rw c.in-Done.is c.put_line.ensures
+returns-in-Ok c = rw c.in-Ok.is c.put_line.ensures
 
-pub returns-in-Refused : goal.returns-in-Refused
+pub returns-in-Err : goal.returns-in-Err
 unfolding switched_text
-returns-in-Refused c = rw c.in-Refused.is c.put_refused.ensures
+returns-in-Err c = rw c.in-Err.is c.put_refused.ensures

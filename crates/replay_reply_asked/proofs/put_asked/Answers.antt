@@ -9,15 +9,15 @@ use Rattle.replay_reply_asked.proofs.put_asked.Goals as goal
 
 pub put_frame-requires : goal.put_frame-requires
 put_frame-requires c =
-    omega (arith, c.requires, ap length c.part_of.ensures, length-take c.in-Octets.count c.args.frame.now)
+    omega (arith, c.requires, ap length c.part_of.ensures, length-take c.in-Ok.count c.args.frame.now)
 
-pub returns-in-Octets : goal.returns-in-Octets
+pub returns-in-Ok : goal.returns-in-Ok
 unfolding asked_text
-returns-in-Octets c =
+returns-in-Ok c =
     let told = c.part_of.ensures in
     let text = c.put_frame.ensures in
-    rw c.in-Octets.is record { value = text.value ∙ ap (λ (o : List ℕ). length (ended (spaced frame_word (hex_of o)))) told; output_after = text.output_after ∙ ap (λ (o : List ℕ). pasted c.args.output.now 0 (ended (spaced frame_word (hex_of o)))) told }
+    rw c.in-Ok.is record { value = text.value ∙ ap (λ (o : List ℕ). length (ended (spaced frame_word (hex_of o)))) told; output_after = text.output_after ∙ ap (λ (o : List ℕ). pasted c.args.output.now 0 (ended (spaced frame_word (hex_of o)))) told }
 
-pub returns-in-Refused : goal.returns-in-Refused
+pub returns-in-Err : goal.returns-in-Err
 unfolding asked_text
-returns-in-Refused c = rw c.in-Refused.is c.put_refused.ensures
+returns-in-Err c = rw c.in-Err.is c.put_refused.ensures

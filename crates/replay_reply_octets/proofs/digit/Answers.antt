@@ -1,6 +1,5 @@
 -- `replay_reply_octets::digit` meets its contract.
 use borrow.Author.Tests.{lt-ltb, le-ltb}
-use borrow.Author.Rules.{rules}
 use Rattle.replay_reply_octets.proofs.digit.Goals as goal
 
 pub returns-then-value-lt10 : goal.returns-then-value-lt10

@@ -1,6 +1,6 @@
 -- `replay_reply_octets::part_of` meets its contract.
 use Rattle.std.specs.Prelude.{◌≡◌, ◌+◌, ◌-◌}
-use Rattle.laws.specs.Usual.{sym, ap, ◌∙◌, ℕ, arith, take, drop, rules}
+use Rattle.laws.specs.Usual.{sym, ap, ◌∙◌, ℕ, arith, take, drop}
 use lib.ListN.{length-drop, drop_of_length-le}
 use lib.Seq.{take-nil, take_all}
 use Rattle.laws.specs.Lists.{to_end}

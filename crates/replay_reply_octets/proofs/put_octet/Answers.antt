@@ -1,6 +1,6 @@
 -- `replay_reply_octets::put_octet` meets its contract.
 use Rattle.std.specs.Prelude.{◌∷◌}
-use Rattle.laws.specs.Usual.{[], arith, rules}
+use Rattle.laws.specs.Usual.{[], arith}
 use Rattle.replay_reply_parts.specs.Hex.{octet_text}
 use Rattle.replay_reply_parts.specs.Written.{Written, then}
 use Rattle.replay_reply_octets.proofs.put_octet.Goals as goal

@@ -1,5 +1,5 @@
 -- `replay_reply_state::put_entries` meets its contract.
-use Rattle.std.specs.Prelude.{◌≡◌, ◌++◌, ◌+◌, ◌-◌, ◌<◌, ◌≤◌}
+use Rattle.std.specs.Prelude.{◌≡◌, ◌++◌, ◌+◌, ◌<◌, ◌≤◌}
 use Rattle.laws.specs.Usual.{refl, sym, ap, ◌∙◌, ℕ, arith, length, get_or, take, rules}
 use native.Mathlib.Numerals.{add-one}
 use lib.Seq.{length-take-le, take-suc, take_all}
@@ -15,14 +15,14 @@ use Rattle.replay_reply_state.proofs.put_entries.Goals as goal
 pub loop-number-init : goal.loop-number-init
 loop-number-init c =
     let a = c.args in
-    (omega arith, (omega arith, sym (paste_nothing a.output.now a.at)), refl)
+    ((omega arith, sym (paste_nothing a.output.now a.at)), refl)
 
 pub put_entry-end-requires : goal.put_entry-end-requires
 put_entry-end-requires c =
     let l = c.loop-number in
     let entries = c.args.members.entries in
     let all : length entries ≡ 256 = search (rules, unmapped) in
-    omega (arith, c.requires, entries_length 0 (take l.number entries), length-take-le l.number entries (omega arith), l.invariant.1.0, l.invariant.2)
+    omega (arith, c.requires, entries_length 0 (take l.number entries), length-take-le l.number entries (omega arith), l.invariant.0.0, l.invariant.1)
 
 pub loop-number-preserved : goal.loop-number-preserved
 loop-number-preserved c =
@@ -41,13 +41,12 @@ loop-number-preserved c =
     ∙ entries_more 0 past entry
     ∙ ap (λ (n : ℕ). entries_from 0 past ++ entry_text n entry) here in
     let room : a.at + length (entries_from 0 past) ≤ length a.output.now = omega (arith, c.requires, entries_length 0 past) in (
-      omega arith,
-      rw more (then a.output.now a.at (entries_from 0 past) (entry_text l.number entry) room l.invariant.1 (c.put_entry-end.ensures.value, c.put_entry-end.ensures.output_after)),
-      c.put_entry-end.auto.output ∙ l.invariant.2,
+      rw more (then a.output.now a.at (entries_from 0 past) (entry_text l.number entry) room l.invariant.0 (c.put_entry-end.ensures.value, c.put_entry-end.ensures.output_after)),
+      c.put_entry-end.auto.output ∙ l.invariant.1,
     )
 
 pub shape_of-output : goal.shape_of-output
-shape_of-output c = c.loop-number.invariant.2
+shape_of-output c = c.loop-number.invariant.1
 
 pub returns : goal.returns
 returns c =
@@ -55,5 +54,5 @@ returns c =
     let entries = c.args.members.entries in
     let long : length entries ≡ 256 = search (rules, unmapped) in
     let all : take l.number entries ≡ entries = take_all l.number entries (omega arith) in
-    let done : Written c.args.output.now c.args.at (entries_from 0 entries) l.output l.end = rw (← all) l.invariant.1 in
+    let done : Written c.args.output.now c.args.at (entries_from 0 entries) l.output l.end = rw (← all) l.invariant.0 in
     record { upper_bound = omega (arith, done.0, entries_length 0 entries); value = done.0; output_after = done.1 }

@@ -1,5 +1,5 @@
 -- `replay_reply_state::put_entry` meets its contract.
-use Rattle.laws.specs.Usual.{sym, arith, rules}
+use Rattle.laws.specs.Usual.{sym, arith}
 use Rattle.copying.specs.Laws.{paste_nothing}
 use Rattle.replay_reply_state.proofs.put_entry.Goals as goal
 

@@ -1,6 +1,6 @@
 -- `replay_reply_state::put_head` meets its contract.
 use Rattle.std.specs.Prelude.{◌∷◌, ◌++◌}
-use Rattle.laws.specs.Usual.{arith, rules}
+use Rattle.laws.specs.Usual.{arith}
 use lib.ListN.{length-append}
 use Rattle.text.specs.Decimal.{decimal_of}
 use Rattle.text.specs.Digits.{at_most}

@@ -1,6 +1,6 @@
 -- `replay_reply_state::put_pair` meets its contract.
 use Rattle.std.specs.Prelude.{◌∷◌}
-use Rattle.laws.specs.Usual.{arith, rules}
+use Rattle.laws.specs.Usual.{arith}
 use Rattle.text.specs.Decimal.{decimal_of}
 use Rattle.text.specs.Digits.{at_most}
 use Rattle.text.specs.Lines.{comma}

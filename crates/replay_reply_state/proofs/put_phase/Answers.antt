@@ -1,5 +1,4 @@
 -- `replay_reply_state::put_phase` meets its contract.
-use borrow.Author.Rules.{rules}
 use Rattle.replay_reply_state.proofs.put_phase.Goals as goal
 
 pub returns-in-Off : goal.returns-in-Off

@@ -1,6 +1,6 @@
 -- `replay_reply_state::put_state` meets its contract.
 use Rattle.std.specs.Prelude.{◌∷◌, ◌++◌, ◌+◌, ◌≤◌}
-use Rattle.laws.specs.Usual.{[], arith, length, rules}
+use Rattle.laws.specs.Usual.{[], arith, length}
 use lib.ListN.{length-append}
 use Rattle.text.specs.Lines.{line_feed}
 use Rattle.replay_reply_parts.specs.Lines.{ended}

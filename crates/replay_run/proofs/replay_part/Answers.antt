@@ -5,7 +5,7 @@ use mathlib.Core.Bool.{true≢false}
 use borrow.Author.Tests.{ltb-true, ltb-false}
 use Rattle.text_feeding.specs.Feeding.{Onward}
 use Rattle.text_feeding.proofs.Scan.{taken_on, onward_all}
-use Rattle.replay_lines.specs.Replay.{held, replay, after}
+use Rattle.replay_lines.specs.Replay.{replay, after}
 use Rattle.replay_run.proofs.replay_part.Goals as goal
 
 pub loop-going-init : goal.loop-going-init
@@ -22,10 +22,9 @@ loop-going-preserved c =
     let a = c.args in
     let l = c.loop-going in
     let done = c.replay_next-going in
-    let first = held a.station a.line a.stored.now a.memory.now a.assembly.now a.turn.now a.frame.now in
     let on : Onward a.part.now l.going.at done.result.at done.result.on = done.ensures.onward in
     let le : l.going.at ≤ done.result.at = omega arith in (
-      taken_on replay a.part.now first l.going.at done.result.at le l.invariant.0 done.ensures.frame_after,
+      taken_on replay a.part.now a.carried.now l.going.at done.result.at le l.invariant.0 done.ensures.carried_after,
       on.forward.within,
       λ h. onward_all on,
     )
@@ -33,9 +32,9 @@ loop-going-preserved c =
 pub returns-else-going-part : goal.returns-else-going-part
 returns-else-going-part c =
     let l = c.loop-going in
-    record { frame_after = l.invariant.0; taken = record { all = λ _. omega (arith, ltb-false); some = l.invariant.2 } }
+    record { carried_after = l.invariant.0; taken = record { all = λ _. omega (arith, ltb-false); some = l.invariant.2 } }
 
 pub returns-after-loop-going : goal.returns-after-loop-going
 returns-after-loop-going c =
     let l = c.loop-going in
-    record { frame_after = l.invariant.0; taken = record { all = λ h. absurd (true≢false (sym h ∙ c.loop-going-test.false)); some = l.invariant.2 } }
+    record { carried_after = l.invariant.0; taken = record { all = λ h. absurd (true≢false (sym h ∙ c.loop-going-test.false)); some = l.invariant.2 } }

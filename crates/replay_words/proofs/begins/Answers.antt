@@ -1,34 +1,24 @@
 -- `replay_words::begins` meets its contract.
-use Rattle.std.specs.Prelude.{◌≡◌, ◌-◌}
-use Rattle.laws.specs.Usual.{refl, sym, ◌∙◌, length, drop, rules}
-use borrow.Author.Tests.{eq-eqb}
-use Rattle.replay_words.proofs.WordLaws.{begins_done, begins_short, begins_other, begins_more}
+use Rattle.std.specs.Prelude.{◌≡◌, ◌∷◌, ◌&&◌}
+use Rattle.laws.specs.Usual.{refl, sym, ap₂, ◌∙◌, Bool, List, [], ℕ, eqb}
+use Rattle.std.proofs.Common.{eq-eqb, ne_eqb}
+use Rattle.std.proofs.Math.Decide.{ℕ_discrete}
+use Rattle.std.specs.List.{starts_with}
 use Rattle.replay_words.specs.Words.{begins}
 use Rattle.replay_words.proofs.begins.Goals as goal
 
-pub loop-i-init : goal.loop-i-init
-loop-i-init c = refl
+-- the library compares the letter with the octet, and the definition the octet with the letter
+turned : (letter octet : ℕ) → eqb letter octet ≡ eqb octet letter
+turned letter octet = by (ℕ_discrete letter octet)
+  where
+    by : Dec (letter ≡ octet) → eqb letter octet ≡ eqb octet letter
+    by (yes e) = eq-eqb letter octet e ∙ sym (eq-eqb octet letter (sym e))
+    by (no n) = ne_eqb letter octet n ∙ sym (ne_eqb octet letter (λ e. n (sym e)))
 
-pub returns-then-line-i : goal.returns-then-line-i
-returns-then-line-i c =
-    let a = c.args in
-    let i = c.loop-i.i in
-    sym (begins_short a.word.now a.line.now i c.loop-i-test.true c.if-line-i.true) ∙ c.loop-i.invariant
-
-pub returns-then-line-i-2 : goal.returns-then-line-i-2
-returns-then-line-i-2 c =
-    let a = c.args in
-    let i = c.loop-i.i in
-    sym (begins_other a.word.now a.line.now i c.loop-i-test.true c.if-line-i.false c.if-line-i-2.true) ∙ c.loop-i.invariant
-
-pub loop-i-preserved : goal.loop-i-preserved
-loop-i-preserved c =
-    let a = c.args in
-    let i = c.loop-i.i in
-    sym (begins_more a.word.now a.line.now i c.loop-i-test.true c.if-line-i.false (eq-eqb _ _ c.if-line-i-2.false)) ∙ c.loop-i.invariant
+begins_lem : (word line : List ℕ) → starts_with eqb line word ≡ begins word line
+begins_lem [] line = refl
+begins_lem (letter ∷ word) [] = refl
+begins_lem (letter ∷ word) (octet ∷ line) = ap₂ (λ (s t : Bool). s && t) (turned letter octet) (begins_lem word line)
 
 pub returns : goal.returns
-returns c =
-    let a = c.args in
-    let i = c.loop-i.i in
-    sym (begins_done a.word.now a.line.now i c.loop-i-test.false) ∙ c.loop-i.invariant
+returns c = c.starts_with.ensures.value ∙ begins_lem c.args.word.now c.args.line.now

@@ -1,5 +1,5 @@
 -- `replay_words::number_at` meets its contract.
-use Rattle.std.specs.Prelude.{◌≡◌, ◌+◌, ◌-◌, ◌≤◌}
+use Rattle.std.specs.Prelude.{Option, ◌≡◌, ◌+◌, ◌-◌, ◌≤◌}
 use Rattle.laws.specs.Usual.{sym, ap, ap₂, ◌∙◌, List, ℕ, arith, length, take, drop, rules}
 use lib.ListN.{length-drop}
 use Rattle.text.specs.Lines.{space}
@@ -10,7 +10,7 @@ use Rattle.replay_words.specs.Words.{decimal, number_in}
 use Rattle.replay_words.specs.declared.Number.{Number}
 use Rattle.replay_words.proofs.number_at.Goals as goal
 
-abbrev made : ℕ → ℕ → Number
+abbrev made : Option ℕ → ℕ → Number
 made value end = record { value = value; end = end }
 
 pub returns-then-line-place : goal.returns-then-line-place
