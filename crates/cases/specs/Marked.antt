@@ -1,5 +1,5 @@
 -- Paper 01, "Marked cases (*) and others": the marked cases are one table, held against the rules by one check.
-use Rattle.std.specs.Prelude.{◌≡◌, ◌&&◌, ◌∷◌, ◌-◌}
+use Rattle.std.specs.Prelude.{Ok, Err, ◌≡◌, ◌&&◌, ◌∷◌, ◌-◌}
 use Rattle.laws.specs.Usual.{refl, Bool, true, false, cond, List, [], ℕ, min, replicate, eqb}
 use Rattle.block.specs.Blocks.{blocks_of, length_of}
 use Rattle.frame_refusals.specs.Refusals.{number_of}
@@ -16,11 +16,9 @@ use Rattle.station.specs.Rules.Token.{view_after}
 use Rattle.station.specs.Types.{Areas, Part, Code, Read, Members}
 use Rattle.station.specs.declared.Settings.{Settings}
 use Rattle.station.specs.declared.Station.{Station}
-use Rattle.station.specs.declared.Switched.{Switched}
+use Rattle.station.specs.Types.{Switched}
 use Rattle.text.specs.Decimal.{decimal_at}
 use Rattle.frame_writing.specs.Writing.{no_areas, no_watch, fixed_for, header_of, frame_of}
-use Rattle.frame_reading.specs.declared.Read.TheVariants as reads
-use Rattle.station.specs.declared.Switched.TheVariants as switches
 
 -- a marked case, with what the paper says of it
 pub data Case : Type 0 where
@@ -142,20 +140,20 @@ codes = Token ∷ Cyclic ∷ Request ∷ []
 
 -- done, with these areas
 abbrev starts_with : Areas → Switched → Station → Bool
-starts_with areas switches.Done station = same_part station.own.areas.one areas.one
-starts_with areas (switches.Refused refusal) station = false
+starts_with areas (Ok tt) station = same_part station.own.areas.one areas.one
+starts_with areas (Err refusal) station = false
 
 abbrev start_refused : ℕ → Switched → Bool
-start_refused number switches.Done = false
-start_refused number (switches.Refused refusal) = eqb (number_of refusal) number
+start_refused number (Ok tt) = false
+start_refused number (Err refusal) = eqb (number_of refusal) number
 
 abbrev reads_with : Areas → Read → Bool
-reads_with areas (reads.Frame fields) = same_part fields.areas.one areas.one
-reads_with areas (reads.Refused refusal) = false
+reads_with areas (Ok fields) = same_part fields.areas.one areas.one
+reads_with areas (Err refusal) = false
 
 abbrev read_refused : ℕ → Read → Bool
-read_refused number (reads.Frame fields) = false
-read_refused number (reads.Refused refusal) = eqb (number_of refusal) number
+read_refused number (Ok fields) = false
+read_refused number (Err refusal) = eqb (number_of refusal) number
 
 -- the list of a station of the ring: all the others
 abbrev list_of : ℕ → List ℕ → Members

@@ -2,7 +2,7 @@
 -- The definitions that the statements are made of are the rules themselves, which the contracts of the calls cite. Words in quotes are the
 -- request's and paper 01's.
 use Rattle.laws.specs.Usual.{refl, sym, ap, subst, ◌∙◌, true, false, cond, not, false≢true, List, [], ℕ, suc, length, get_or, take, replicate, eqb, leb}
-use Rattle.std.specs.Prelude.{◌≡◌, ◌&&◌, ◌||◌, ◌∷◌, ◌++◌, ◌+◌, ◌-◌, ◌*◌, ◌<◌, ◌≤◌, ◌⊎◌}
+use Rattle.std.specs.Prelude.{Ok, Err, ◌≡◌, ◌&&◌, ◌||◌, ◌∷◌, ◌++◌, ◌+◌, ◌-◌, ◌*◌, ◌<◌, ◌≤◌, ◌⊎◌}
 use Rattle.std.proofs.Common.{inl, inr}
 use Rattle.area.specs.Areas.{in_area, in_range}
 use Rattle.area.specs.Overlap.{parts_overlap, areas_overlap}
@@ -56,6 +56,8 @@ use Rattle.settle_rest.specs.Rest.{printing_of, is_over}
 use Rattle.settle_rest.specs.Whole.{output_of}
 use Rattle.settle_run.specs.Run.{is_ring, settled_of, Bounded}
 use Rattle.settle_run.specs.Running.{running_of}
+use Rattle.settle_run.specs.declared.Running.{Running}
+use Rattle.settle_rest.specs.declared.Printing.TheVariants.{Header}
 use Rattle.settle_run.specs.Counted.{running_after, RightCounts}
 use Rattle.settle_run.proofs.Counted.{counts_run}
 use Rattle.settle_run.proofs.Whole.{settled_run, settled_bounded}
@@ -96,8 +98,7 @@ use Rattle.station.specs.Memory.RepeatSaid.{Repeats}
 use Rattle.station.proofs.Memory.TurnWhole.{turn_whole}
 use Rattle.station.specs.Memory.TurnWhole.{Lending}
 use Rattle.station.proofs.Memory.TurnWritten.{turn_written, Turned}
-use Rattle.station.specs.declared.Asked.TheVariants.{Octets}
-use Rattle.station.specs.Types.{Areas, Part, Fields, Refusal, Frame, Refused}
+use Rattle.station.specs.Types.{Areas, Part, Fields, Refusal}
 use Rattle.station.specs.declared.Phase.{Phase}
 use Rattle.station.specs.declared.Phase.TheVariants.{Off, Listening, Startup, Joining, Participating}
 use Rattle.station.specs.declared.Station.{Station}
@@ -114,7 +115,6 @@ use Rattle.frame_reading.specs.Reading as reading
 use Rattle.ticking_quiet.specs.Quiet as quiet
 use Rattle.replay_lines.specs.Output as replayed
 use Rattle.replay_lines.specs.Replay as replay
-use Rattle.settle_input.specs.declared.Verdict.TheVariants as verdicts
 use Rattle.settling.specs.Ring as theory
 use Rattle.settling.specs.Steps as theory_steps
 use Rattle.station.specs.declared.Heard.TheVariants as heard
@@ -154,7 +154,7 @@ pub disturbed_ring :
     → ((n m : ℕ) → n ∈ numbers → m ∈ numbers → ¬ (m ≡ n) → (counts_as (entry_of (stations n).members m).watch).0 ≡ (stations n).own.watch.0)
     → ((n : ℕ) → n ∈ numbers → (stations n).view ∈ numbers)
     -- "all of which have just sent or heard one token frame", brought there "by whatever calls since off".
-    → (octets : List ℕ) (token : Fields) → read_of octets ≡ Frame token → is_token token.code ≡ true
+    → (octets : List ℕ) (token : Fields) → read_of octets ≡ Ok token → is_token token.code ≡ true
     → ((n : ℕ) → n ∈ numbers → LastCall octets (stations n))
     -- "Then take any list of events", each of which can come.
     → (events : List Event) → EachFinds after_event (CanCome numbers) stations events
@@ -383,13 +383,13 @@ heard_again station octets memory assembly token e repeat = kept_repeated statio
 
 -- "the frames it writes read back to the same fields": what an asking writes reads as the frame that is due,
 pub frames_asked : (station : Station) → Reachable station → (memory turn output : List ℕ) (count : ℕ)
-    → (ask_of station memory turn output).answer ≡ Octets count
-    → read_of (take count (ask_of station memory turn output).output) ≡ Frame (due_fields station.phase station)
+    → (ask_of station memory turn output).answer ≡ Ok count
+    → read_of (take count (ask_of station memory turn output).output) ≡ Ok (due_fields station.phase station)
 frames_asked = frame_asked
 
 -- every participant but its sender accepts it that knows the source of a cyclic frame and the destination of a token,
 pub frames_accepted : (station : Station) → Reachable station → (memory turn output : List ℕ) (count : ℕ)
-    → (ask_of station memory turn output).answer ≡ Octets count
+    → (ask_of station memory turn output).answer ≡ Ok count
     → (listener : Station) → listener.phase ≡ Participating → ¬ ((due_fields station.phase station).source ≡ listener.own.number)
     → (is_cyclic (due_fields station.phase station).code ≡ true → knows listener (due_fields station.phase station).source ≡ true)
     → (is_token (due_fields station.phase station).code ≡ true → knows listener (due_fields station.phase station).destination ≡ true)
@@ -402,14 +402,14 @@ frames_accepted station reached memory turn output count e listener inside other
 -- an exported call's answer has the code, the source and the destination of the frame that was read, or that was written,
 pub frame_told_heard : {before left : Box} {octets memory assembly : List ℕ} {answer : Answer} {buffers : List (List ℕ)}
     → Done before (hear octets memory assembly) left answer buffers
-    → ((frame : Fields) → read_of octets ≡ Frame frame
+    → ((frame : Fields) → read_of octets ≡ Ok frame
     → answer.frame ≡ record { code = code_number frame.code; source = frame.source; destination = frame.destination })
-    × ((refusal : Refusal) → read_of octets ≡ Refused refusal → answer.frame ≡ record { code = 0; source = 0; destination = 0 })
+    × ((refusal : Refusal) → read_of octets ≡ Err refusal → answer.frame ≡ record { code = 0; source = 0; destination = 0 })
 frame_told_heard = heard_frame
 
 pub frame_told_written : {before left : Box} {memory turn output : List ℕ} {answer : Answer} {buffers : List (List ℕ)} → Reachable (station_at before)
     → Done before (ask memory turn output) left answer buffers → answer.word ≡ 3 → (frame : Fields)
-    → read_of (take answer.octets (ask_of (station_at before) memory turn output).output) ≡ Frame frame
+    → read_of (take answer.octets (ask_of (station_at before) memory turn output).output) ≡ Ok frame
     → answer.frame ≡ record { code = code_number frame.code; source = frame.source; destination = frame.destination }
 frame_told_written reached done word frame read =
     let found = written_frame reached done word in
@@ -417,12 +417,12 @@ frame_told_written reached done word frame read =
 
 -- any frame with fields that a station can send reads back to them, and to its data,
 pub reads_back : (fields : Fields) (block : List ℕ) → Sendable fields → data_size fields ≤ length block
-    → (read_of (frame_of fields block) ≡ Frame (fixed fields)) × (reading.data_of (frame_of fields block) (fixed fields) ≡ take (data_size fields) block)
+    → (read_of (frame_of fields block) ≡ Ok (fixed fields)) × (reading.data_of (frame_of fields block) (fixed fields) ≡ take (data_size fields) block)
 reads_back fields block can enough = (fields_read fields block can enough, data_read fields block can enough)
 
 -- "and fields read from a frame write the same octets for those fields, save the whole length where our frame is shorter, and a value that
 -- clause 10.1 or the paper fixes for that code", which is the table's.
-pub writes_back : (s : List ℕ) (fields : Fields) → ((at : ℕ) → octet_at s at < 256) → read_of s ≡ Frame fields → WrittenBack s fields
+pub writes_back : (s : List ℕ) (fields : Fields) → ((at : ℕ) → octet_at s at < 256) → read_of s ≡ Ok fields → WrittenBack s fields
 writes_back = written_back
 
 -- MANY TICKS IN ONE CALL are that many calls of tick,
@@ -493,8 +493,9 @@ pub settle_counts : (ring : Ring) → length ring.views ≡ 256 → is_ring ring
 settle_counts = counts_run
 
 -- for every input that gives a ring, of the run that is printed,
-pub settle_counts_read : (octets : List ℕ) → (ring_read octets).verdict ≡ verdicts.Ring
-    → (steps : ℕ) → RightCounts (theory_steps.after_all moved (ring_read octets).ring (steps_from steps (ring_read octets).ring)) (running_after steps (printing_of octets).running)
+pub settle_counts_read : (octets : List ℕ) (ring : Ring) → ring_read octets ≡ Ok ring
+    → (running : Running) × (printing_of octets ≡ Header running)
+    × ((steps : ℕ) → RightCounts (theory_steps.after_all moved ring (steps_from steps ring)) (running_after steps running))
 settle_counts_read = counts_read
 
 -- the total is the number of different views, in every ring of octets,
@@ -504,7 +505,7 @@ settle_total = total_different
 -- what is printed for an input is its first bad line, or the column names, the steps of that run and its totals: a program that fills a buffer of
 -- 35 octets or more and hands on its front until nothing is left to print ends, and hands on just these octets.
 pub settle_prints : (buffer octets : List ℕ) → 35 ≤ length buffer
-    → (fills : ℕ) × (is_over (after_fills fills (length buffer) (printing_of octets)).stage ≡ true) × (handed fills buffer (printing_of octets) ≡ output_of octets)
+    → (fills : ℕ) × (is_over (after_fills fills (length buffer) (printing_of octets)) ≡ true) × (handed fills buffer (printing_of octets) ≡ output_of octets)
 settle_prints = printed_whole
 
 -- `decode`: a line of a capture that came octet by octet, of any length, into a buffer of 1121 octets or more, is answered as the whole line.
