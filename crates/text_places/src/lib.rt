@@ -9,8 +9,12 @@ ghost use Rattle.text_reading.specs.Marks.{before};
 pub fn place_from(octets: &[u8], mark: u8, from: usize) -> usize
     ensures { result ≡ from + before mark (drop from octets.now) }
 {
-    let before = octets.iter().skip(from).take_while(|&&octet| octet != mark);
-    from + before.count()
+    for place in from..octets.len() {
+        if octets[place] == mark {
+            return place;
+        }
+    }
+    from.max(octets.len())
 }
 
 // The number of octets before the first mark, or of all where there is none.

@@ -1,33 +1,36 @@
 -- `text_places::place_from` meets its contract.
-use Rattle.std.proofs.Common.{rules, tests, not, Bool, true, false}
-use Rattle.std.proofs.lemmas.Iterator.{YieldsList-from_slice}
-use Rattle.std.proofs.lemmas.Iterator.Adapters.{YieldsList-from_skip}
-use Rattle.std.proofs.lemmas.Iterator.Consumers.{YieldsList-at, count_from_yields_List}
-use Rattle.std.proofs.lemmas.Iterator.Search.{YieldsList-from_take_while}
-use Rattle.std.proofs.lemmas.List.Folds.{length-prefix_len}
-use Rattle.std.specs.List.{prefix_len}
-use Rattle.std.specs.Prelude.{◌≡◌, ◌∷◌, ◌+◌}
-use Rattle.laws.specs.Usual.{refl, ap, ◌∙◌, List, [], ℕ, arith, suc, cond, drop, eqb}
+use Rattle.std.specs.Prelude.{◌≡◌, ◌+◌, ◌≤◌}
+use Rattle.laws.specs.Usual.{ap, arith, length, drop}
+use native.Mathlib.Numerals.{add-one}
+use lib.ListN.{drop_of_length-le}
+use lib.Seq.{drop-cons}
+use borrow.Author.Tests.{eq-eqb, ne_eqb}
 use Rattle.text_reading.specs.Marks.{before}
 use Rattle.text_places.proofs.place_from.Goals as goal
 
--- the octets before a mark are those that are no such mark
-before_lem : (mark : ℕ) (octets : List ℕ) → prefix_len (λ octet. not (eqb octet mark)) octets ≡ before mark octets
-before_lem mark [] = refl
-before_lem mark (octet ∷ octets) = by (eqb octet mark) (before_lem mark octets)
-  where
-    by : (t : Bool) → prefix_len (λ other. not (eqb other mark)) octets ≡ before mark octets
-        → cond (not t) (1 + prefix_len (λ other. not (eqb other mark)) octets) 0 ≡ cond t 0 (suc (before mark octets))
-    by true e = refl
-    by false e = omega (arith, e)
+pub loop-place-init : goal.loop-place-init
+loop-place-init c = record { same = omega arith; within = omega arith }
+
+pub returns-then-octets-place : goal.returns-then-octets-place
+returns-then-octets-place c =
+    let a = c.args in
+    let loop = c.loop-place in
+    let here : before a.mark (drop loop.place a.octets.now) ≡ 0 = rw (drop-cons a.octets.now loop.place 0 c.loop-place-test.true, eq-eqb _ _ c.if-octets-place.true) in
+    omega (arith, here, loop.invariant.same)
+
+pub loop-place-preserved : goal.loop-place-preserved
+loop-place-preserved c =
+    let a = c.args in
+    let loop = c.loop-place in
+    let inside = c.loop-place-test.true in
+    let next : before a.mark (drop loop.place a.octets.now) ≡ before a.mark (drop (loop.place + 1) a.octets.now) + 1 =
+    rw (add-one loop.place, add-one, drop-cons a.octets.now loop.place 0 inside, ne_eqb _ _ c.if-octets-place.false) in
+    record { same = omega (arith, next, loop.invariant.same); within = omega (arith, inside) }
 
 pub returns : goal.returns
 returns c =
     let a = c.args in
-    let test = λ (octet : ℕ). not (eqb octet a.mark) in
-    let skipped = YieldsList-from_skip a.from (YieldsList-at c.skip.ensures.source (YieldsList-from_slice a.octets.now cc)) c.skip.ensures.count in
-    ap (λ (k : ℕ). a.from + k)
-    (count_from_yields_List c.take_while-before.result _ c.count.ensures.ran
-    (YieldsList-from_take_while _ test (YieldsList-at c.take_while-before.ensures.source skipped) c.take_while-before.ensures.closure c.take_while-before.ensures.done (λ x b q k. search (rules, tests)))
-    ∙ length-prefix_len test (drop a.from a.octets.now)
-    ∙ before_lem a.mark (drop a.from a.octets.now))
+    let loop = c.loop-place in
+    let past : length a.octets.now ≤ loop.place = omega (arith, c.loop-place-test.false) in
+    let done : before a.mark (drop loop.place a.octets.now) ≡ 0 = ap (before a.mark) (drop_of_length-le a.octets.now past) in
+    omega (arith, loop.invariant.same, loop.invariant.within, c.max.ensures, c.loop-place-test.false, loop.auto.place, done)
