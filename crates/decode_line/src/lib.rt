@@ -84,13 +84,10 @@ impl Gathers for Gathered {
 
     ghost stored = { buffer_after };
 
-    fn push(self, octet: u8, buffer: &mut [u8]) -> Gathered {
+    fn push(&mut self, octet: u8, buffer: &mut [u8]) {
         match digit_of(octet) {
-            Some(digit) => place(self.count, self.pending, digit, buffer),
-            None => Gathered {
-                count: self.count,
-                pending: Pending::Bad,
-            },
+            Some(digit) => *self = place(self.count, self.pending, digit, buffer),
+            None => self.pending = Pending::Bad,
         }
     }
 }

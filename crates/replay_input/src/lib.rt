@@ -48,18 +48,14 @@ impl Gathers for Line {
 
     ghost stored = { stored };
 
-    fn push(self, octet: u8, buffer: &mut [u8]) -> Line {
+    fn push(&mut self, octet: u8, buffer: &mut [u8]) {
         store(self.count, octet, buffer);
         if self.count < 5 {
-            return Line {
-                count: self.count + 1,
-                ..self
-            };
-        }
-        Line {
-            count: count_after(self.count),
-            digits: self.digits & is_hexadecimal(octet),
-            odd: !self.odd,
+            self.count += 1;
+        } else {
+            self.count = count_after(self.count);
+            self.digits = self.digits & is_hexadecimal(octet);
+            self.odd = !self.odd;
         }
     }
 }

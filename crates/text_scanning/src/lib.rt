@@ -13,9 +13,9 @@ pub trait Gathers {
 
     ghost stored: { Self → List ℕ → ℕ → List ℕ };
 
-    fn push(self, octet: u8, buffer: &mut [u8]) -> Self
-        ensures value { result ≡ pushed (length buffer.old) self octet }
-        ensures buffer_after { buffer.new ≡ stored self buffer.old octet };
+    fn push(&mut self, octet: u8, buffer: &mut [u8])
+        ensures self_after { self.new ≡ pushed (length buffer.old) self.old octet }
+        ensures buffer_after { buffer.new ≡ stored self.old buffer.old octet };
 }
 
 // What a part of a text did to a line: what has come of the line, the place in the text behind it, and whether the line has ended. A flag and no
@@ -34,14 +34,15 @@ pub fn scan<L: Gathers>(line: L, text: &[u8], from: usize, buffer: &mut [u8]) ->
 {
     let mut line = line;
     for place in from..text.len() {
-        if text[place] == b'\n' {
+        let octet = text[place];
+        if octet == b'\n' {
             return Scanned {
                 line,
                 next: place + 1,
                 ended: true,
             };
         }
-        line = line.push(text[place], buffer);
+        line.push(octet, buffer);
     }
     Scanned {
         line,

@@ -10,15 +10,15 @@ use Rattle.text_scanning.proofs.scan.Goals as goal
 pub loop-place-init : goal.loop-place-init
 loop-place-init g c = record { line = refl; buffer = refl; within = omega arith }
 
-pub returns-then-text-place-eq10-clause-value : goal.returns-then-text-place-eq10-clause-value
-returns-then-text-place-eq10-clause-value g c =
+pub returns-then-octet-eq10-clause-value : goal.returns-then-octet-eq10-clause-value
+returns-then-octet-eq10-clause-value g c =
     let l = c.loop-place in
-    sym (scan_ended (g.L.Gathers.pushed (length c.args.buffer.now)) made l.line l.place c.args.text.now c.loop-place-test.true c.if-text-place-eq10.true) ∙ l.invariant.line
+    sym (scan_ended (g.L.Gathers.pushed (length c.args.buffer.now)) made l.line l.place c.args.text.now c.loop-place-test.true c.if-octet-eq10.true) ∙ l.invariant.line
 
-pub returns-then-text-place-eq10-clause-buffer_after : goal.returns-then-text-place-eq10-clause-buffer_after
-returns-then-text-place-eq10-clause-buffer_after g c =
+pub returns-then-octet-eq10-clause-buffer_after : goal.returns-then-octet-eq10-clause-buffer_after
+returns-then-octet-eq10-clause-buffer_after g c =
     let l = c.loop-place in
-    sym (buffer_ended (g.L.Gathers.pushed (length c.args.buffer.now)) g.L.Gathers.stored l.line l.buffer l.place c.args.text.now c.loop-place-test.true c.if-text-place-eq10.true) ∙ l.invariant.buffer
+    sym (buffer_ended (g.L.Gathers.pushed (length c.args.buffer.now)) g.L.Gathers.stored l.line l.buffer l.place c.args.text.now c.loop-place-test.true c.if-octet-eq10.true) ∙ l.invariant.buffer
 
 pub loop-place-preserved : goal.loop-place-preserved
 loop-place-preserved g c =
@@ -27,12 +27,12 @@ loop-place-preserved g c =
     let store = g.L.Gathers.stored in
     let l = c.loop-place in
     let inside = c.loop-place-test.true in
-    let other = c.if-text-place-eq10.false in
+    let other = c.if-octet-eq10.false in
     let octet = get_or text l.place 0 in
-    let line = c.push-line.ensures.value ∙ ap (λ (n : ℕ). g.L.Gathers.pushed n l.line octet) l.auto.buffer in record {
+    let line = c.push.ensures.self_after ∙ ap (λ (n : ℕ). g.L.Gathers.pushed n l.line octet) l.auto.buffer in record {
       line = ap (λ (s : _). scan_of push made s (l.place + 1) (drop (l.place + 1) text)) line
           ∙ sym (scan_on push made l.line l.place text inside other) ∙ l.invariant.line;
-      buffer = ap₂ (λ (s : _) (b : List ℕ). buffer_of push store s b (drop (l.place + 1) text)) line c.push-line.ensures.buffer_after
+      buffer = ap₂ (λ (s : _) (b : List ℕ). buffer_of push store s b (drop (l.place + 1) text)) line c.push.ensures.buffer_after
           ∙ sym (buffer_on push store l.line l.buffer l.place text inside other) ∙ l.invariant.buffer;
       within = omega (arith, inside);
     }
