@@ -22,7 +22,7 @@ pub fn carry_oldest(owed: &mut [u32; OWED_NUMBERS], count: usize, output: &mut [
     ensures owed_after { owed_in owed.new ≡ (carried_in (owed_in owed.old) count output.old).owed }
     ensures owed_after_2 { owed.new ≡ kept_owed owed.old (carried_in (owed_in owed.old) count output.old).owed }
 {
-    let Some(oldest) = message_owed::oldest(owed) else {
+    let Some(oldest) = message_owed::first_owed(owed) else {
         return count;
     };
     if output.len() < count + CONFIRMATION_OCTETS {

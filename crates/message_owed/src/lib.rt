@@ -94,12 +94,20 @@ pub fn is_owing(owed: &[u32; OWED_NUMBERS]) -> bool
     owed[0] != 0
 }
 
-pub fn oldest(owed: &[u32; OWED_NUMBERS]) -> Option<Confirmation>
+// Of nothing it answers what stands in the first place.
+pub fn oldest(owed: &[u32; OWED_NUMBERS]) -> Confirmation
+    ensures { (first : Confirmation) (rest : List Confirmation) → owed_in owed.now ≡ first ∷ rest → result ≡ first }
+{
+    confirmation_at(owed, 1)
+}
+
+// The oldest one, where any is owed.
+pub fn first_owed(owed: &[u32; OWED_NUMBERS]) -> Option<Confirmation>
     ensures value { (first : Confirmation) (rest : List Confirmation) → owed_in owed.now ≡ first ∷ rest → result ≡ Some first }
     ensures none { owed_in owed.now ≡ [] → result ≡ None }
 {
     if is_owing(owed) {
-        Some(confirmation_at(owed, 1))
+        Some(oldest(owed))
     } else {
         None
     }
