@@ -1,7 +1,9 @@
 -- A frame whose header was read, and which number 6 refuses, or 7, 14, 15 or 8. Assumes nothing.
 use Rattle.std.specs.Prelude.{Ok, Err, ◌≡◌, ◌&&◌}
-use Rattle.laws.specs.Usual.{refl, ◌∙◌, Bool, true, false, not, List, ℕ, length, eqb}
-use Rattle.boundary_core.specs.Crossing.{station_of, is_in}
+use Rattle.laws.specs.Usual.{refl, ◌∙◌, Bool, true, false, cond, not, List, ℕ, length, eqb}
+use Rattle.std.proofs.Common.{ne_eqb}
+use Rattle.std.proofs.Math.Decide.{ℕ_discrete}
+use Rattle.boundary_core.specs.Crossing.{phase_of, station_of, is_in}
 use Rattle.boundary_core.specs.declared.Core.{Core}
 use Rattle.frame.specs.declared.Refusal.TheVariants.{Taken}
 use Rattle.frame_reading.specs.Reading.{read_header_of, read_body_of}
@@ -25,6 +27,20 @@ participating_in Listening = refl
 participating_in Startup = refl
 participating_in Joining = refl
 participating_in Participating = refl
+
+-- and of all numbers that C can lend it is the only one
+pub participating_of : (number : ℕ) → is_participating (phase_of number) ≡ eqb number 4
+participating_of number = at (ℕ_discrete number 4)
+  where
+    others : (a b c : Bool) → is_participating (cond a Listening (cond b Startup (cond c Joining Off))) ≡ false
+    others true b c = refl
+    others false true c = refl
+    others false false true = refl
+    others false false false = refl
+
+    at : Dec (number ≡ 4) → is_participating (phase_of number) ≡ eqb number 4
+    at (yes e) = rw e
+    at (no other) = rw (ne_eqb number 4 other) (others (eqb number 1) (eqb number 2) (eqb number 3))
 
 module _ (core : Core) (members : Members) (octets memory assembly : List ℕ) (header : Fields)
     (lent : lent_right memory assembly ≡ true)
